@@ -1,0 +1,70 @@
+-- Books of 01, decoded by evaluation.
+use Prim.Native.Nat.{ℕ}
+use mathlib.Core.Path.{_≡_, refl}
+use mathlib.Core.List.{List, [], _∷_}
+use Rattle.book.specs.declared.role.Role.the-variants.{Named}
+use Rattle.book.specs.declared.statement.Axiom.the-variants.{SubClassOf, FunctionalRole, ObjectPropertyRange, ClassAssertion, ObjectPropertyAssertion}
+use Rattle.book.specs.Role.{roleOf}
+use Rattle.book.specs.Read.{several}
+use Rattle.book.specs.Field.{byte, twoBytes, fourBytes, field, fieldsFrom, fields}
+use Rattle.book.specs.Table.{statementAllows}
+use Rattle.book.specs.Header.{header}
+use Rattle.book.specs.Concept.{conceptStart, partList, bound, conceptTail, conceptRest, concept}
+use Rattle.book.specs.Statement.{statementStart, pathOf, axiomOf, statementRest, statement}
+use Rattle.book.specs.Tree.{Atomic, Nominal, Some, partTrees}
+use Rattle.book.specs.Book.{Book, concepts, book, accepted, refused, decode}
+
+-- no bytes, the one byte 00, and a written count 0
+empty : decode [] ≡ refused 4
+unfolding decode book header byte
+empty = refl
+
+zero-byte : decode (0x00 ∷ []) ≡ accepted (record { counts = record { classes = 0; roles = 0; individuals = 0; concepts = 0; statements = 0 }; concepts = []; statements = [] })
+unfolding decode book header byte twoBytes field fieldsFrom fields concepts several
+zero-byte = refl
+
+written-zero : decode (0x01 ∷ 0x00 ∷ 0x00 ∷ []) ≡ refused 5
+unfolding decode book header byte twoBytes field fieldsFrom fields concepts several
+written-zero = refl
+
+-- the worked book: seven individuals, four roles, one class
+pub worked : List ℕ
+worked =
+    0x1F ∷ 1 ∷ 0 ∷ 4 ∷ 0 ∷ 7 ∷ 0 ∷ 3 ∷ 0 ∷ 10 ∷ 0
+    ∷ 2 ∷ 0x01 ∷ 0 ∷ 0
+    ∷ 3 ∷ 0x02 ∷ 6 ∷ 0
+    ∷ 8 ∷ 0x0C ∷ 6 ∷ 0 ∷ 1 ∷ 0
+    ∷ 8 ∷ 0x01 ∷ 0 ∷ 0 ∷ 0
+    ∷ 8 ∷ 0x01 ∷ 0 ∷ 2 ∷ 0
+    ∷ 11 ∷ 0x11 ∷ 0 ∷ 4 ∷ 0 ∷ 0 ∷ 0
+    ∷ 1 ∷ 0x30 ∷ 0 ∷ 0 ∷ 0 ∷ 2 ∷ 0
+    ∷ 13 ∷ 0x50 ∷ 0 ∷ 0 ∷ 0 ∷ 1 ∷ 0
+    ∷ 14 ∷ 0xC1 ∷ 0 ∷ 0 ∷ 0 ∷ 0 ∷ 0 ∷ 1 ∷ 0
+    ∷ 14 ∷ 0xC1 ∷ 0 ∷ 0 ∷ 0 ∷ 0 ∷ 0 ∷ 2 ∷ 0
+    ∷ 14 ∷ 0xC1 ∷ 0 ∷ 2 ∷ 0 ∷ 3 ∷ 0 ∷ 2 ∷ 0
+    ∷ 14 ∷ 0xC1 ∷ 0 ∷ 2 ∷ 0 ∷ 3 ∷ 0 ∷ 4 ∷ 0
+    ∷ 14 ∷ 0xC1 ∷ 0 ∷ 4 ∷ 0 ∷ 5 ∷ 0 ∷ 4 ∷ 0
+    ∷ []
+
+pub workedBook : Book
+workedBook =
+    record {
+      counts = record { classes = 1; roles = 4; individuals = 7; concepts = 3; statements = 10 };
+      concepts = Atomic 0 ∷ Nominal 6 ∷ Some (Named 3) (Nominal 6) ∷ [];
+      statements =
+          FunctionalRole (Named 0)
+          ∷ FunctionalRole (Named 1)
+          ∷ ObjectPropertyRange (Named 2) 0
+          ∷ SubClassOf 0 2
+          ∷ ClassAssertion 0 1
+          ∷ ObjectPropertyAssertion (Named 0) 0 1
+          ∷ ObjectPropertyAssertion (Named 0) 0 2
+          ∷ ObjectPropertyAssertion (Named 1) 3 2
+          ∷ ObjectPropertyAssertion (Named 1) 3 4
+          ∷ ObjectPropertyAssertion (Named 2) 5 4
+          ∷ [];
+    }
+
+worked-decodes : decode worked ≡ accepted workedBook
+unfolding worked workedBook decode book header concepts several concept conceptStart conceptRest conceptTail partList bound statement statementStart statementRest axiomOf pathOf statementAllows roleOf fields fieldsFrom field byte twoBytes fourBytes partTrees
+worked-decodes = refl

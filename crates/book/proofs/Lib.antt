@@ -1,0 +1,3 @@
+pub mod Parsing
+pub mod Past
+pub mod Examples

@@ -1,0 +1,100 @@
+-- The ways out of the statement record's readers.
+use Prim.Native.Nat.{ℕ, zero, suc, _≤_, _<_}
+use native.Mathlib.Omega.{arith}
+use mathlib.Core.Path.{_≡_, refl, sym}
+use mathlib.Core.Bool.{Bool, true, false}
+use mathlib.Core.List.{List}
+use lib.ListN.{getD, List·getD-eq-default}
+use borrow.Author.Tests.{lt-ltb, le-ltb, eq-eqb, ne-eqb}
+use Rattle.book.specs.declared.role.Role.{Role}
+use Rattle.book.specs.declared.field.ReadField.{ReadField}
+use Rattle.book.specs.declared.field.ReadField.the-variants.{Next, Refused}
+use Rattle.book.specs.declared.field.Passed.the-variants.{Next as On, Refused as Stopped}
+use Rattle.book.specs.declared.field.Fields.{Fields}
+use Rattle.book.specs.declared.header.Counts.{Counts}
+use Rattle.book.specs.declared.table.Start.{Start}
+use Rattle.book.specs.declared.table.ReadStart.{ReadStart}
+use Rattle.book.specs.declared.table.ReadStart.the-variants.{Next as Started, Refused as Unstarted}
+use Rattle.book.specs.declared.statement.SubRolePath.the-variants.{One, Two, Three}
+use Rattle.book.specs.declared.statement.Axiom.{Axiom}
+use Rattle.book.specs.declared.statement.ReadStatement.{ReadStatement}
+use Rattle.book.specs.Read.{value, refusal}
+use Rattle.book.specs.Field.{byte, twoBytes, fields, asField, asFields}
+use Rattle.book.specs.Table.{statementAllows}
+use Rattle.book.specs.Concept.{noValues, asStart}
+use Rattle.book.specs.Statement.{statementStart, statementLimits, pathOf, assertion, axiomKinds, axiomOf, statementRest, statement, asStatement}
+
+abbrev start : ℕ → ℕ → Start
+start kind map = record { kind = kind; map = map }
+
+module _ (s : List ℕ) (at : ℕ) (r : ReadField) where
+  pub start-missing : (n : ℕ) → asField r ≡ byte s at → r ≡ Refused n → refusal n ≡ statementStart s at
+  unfolding statementStart
+  start-missing n e f = simp (← e, f)
+
+  module _ (kind then : ℕ) where
+    pub start-zero : asField r ≡ byte s at → r ≡ Next kind then → kind ≡ 0 → refusal 7 ≡ statementStart s at
+    unfolding statementStart
+    start-zero e f h = simp (← e, f, eq-eqb _ _ h)
+
+    pub start-unknown : asField r ≡ byte s at → r ≡ Next kind then → (kind ≡ 0 → ⊥) → 15 ≤ kind → refusal 7 ≡ statementStart s at
+    unfolding statementStart
+    start-unknown e f z h = simp (← e, f, ne-eqb _ _ z, le-ltb _ _ h)
+
+    module _ (m : ReadField) where
+      pub start-mapless : (n : ℕ) → asField r ≡ byte s at → r ≡ Next kind then → (kind ≡ 0 → ⊥) → kind < 15 → asField m ≡ twoBytes s then → m ≡ Refused n → refusal n ≡ statementStart s at
+      unfolding statementStart
+      start-mapless n e f z h g q = simp (← e, f, ne-eqb _ _ z, lt-ltb _ _ h, ← g, q)
+
+      module _ (map next : ℕ) (allowed : Bool) where
+        pub start-of : asField r ≡ byte s at → r ≡ Next kind then → (kind ≡ 0 → ⊥) → kind < 15 → asField m ≡ twoBytes s then → m ≡ Next map next → allowed ≡ statementAllows kind map → allowed ≡ true → value (start kind map) next ≡ statementStart s at
+        unfolding statementStart
+        start-of e f z h g q a b = simp (← e, f, ne-eqb _ _ z, lt-ltb _ _ h, ← g, q, ← a, b)
+
+        pub start-disallowed : asField r ≡ byte s at → r ≡ Next kind then → (kind ≡ 0 → ⊥) → kind < 15 → asField m ≡ twoBytes s then → m ≡ Next map next → allowed ≡ statementAllows kind map → allowed ≡ false → refusal 8 ≡ statementStart s at
+        unfolding statementStart
+        start-disallowed e f z h g q a b = simp (← e, f, ne-eqb _ _ z, lt-ltb _ _ h, ← g, q, ← a, b)
+
+pub ruleset start-ways = (start-missing, start-zero, start-unknown, start-mapless, start-of, start-disallowed)
+
+module _ (map : ℕ) (r s t : Role) where
+  pub path-one : map ≡ 0x09 → One r ≡ pathOf map r s t
+  unfolding pathOf
+  path-one e = simp (eq-eqb _ _ e)
+
+  pub path-two : (map ≡ 0x09 → ⊥) → map ≡ 0x0B → Two r s ≡ pathOf map r s t
+  unfolding pathOf
+  path-two d e = simp (ne-eqb _ _ d, eq-eqb _ _ e)
+
+  pub path-three : (map ≡ 0x09 → ⊥) → (map ≡ 0x0B → ⊥) → Three r s t ≡ pathOf map r s t
+  unfolding pathOf
+  path-three d e = simp (ne-eqb _ _ d, ne-eqb _ _ e)
+
+pub ruleset path-ways = (path-one, path-two, path-three)
+
+-- a kind that is none of 1 to 13
+pub assertion-of : (x : Start) (v : List ℕ) → ((x .kind ≡ 0 → ⊥) → 14 ≤ x .kind) → assertion v ≡ axiomOf x v
+unfolding axiomOf
+assertion-of x v f = go (x .kind) f
+  where
+    go : (k : ℕ) → ((k ≡ 0 → ⊥) → 14 ≤ k) → assertion v ≡ getD (axiomKinds (x .map) v) k (assertion v)
+    go zero f = refl
+    go (suc k) f = sym (List·getD-eq-default (axiomKinds (x .map) v) (assertion v) (f (omega arith)))
+
+module _ (h : Counts) (x : Start) (s : List ℕ) (at : ℕ) (fs : Fields) where
+  pub rest-unread : (n : ℕ) → asFields fs ≡ fields (x .map) (statementLimits h) noValues 9 s at → fs .end ≡ Stopped n → refusal n ≡ statementRest h x s at
+  unfolding statementRest
+  rest-unread n e f = simp (← e, f)
+
+  pub rest-read : (next : ℕ) (a : Axiom) → asFields fs ≡ fields (x .map) (statementLimits h) noValues 9 s at → fs .end ≡ On next → a ≡ axiomOf x (fs .values) → value a next ≡ statementRest h x s at
+  unfolding statementRest
+  rest-read next a e f g = simp (← e, f, g)
+
+module _ (h : Counts) (s : List ℕ) (at : ℕ) (t : ReadStart) where
+  pub statement-unstarted : (n : ℕ) → asStart t ≡ statementStart s at → t ≡ Unstarted n → refusal n ≡ statement h s at
+  unfolding statement
+  statement-unstarted n e f = simp (← e, f)
+
+  pub statement-read : (x : Start) (then : ℕ) (r : ReadStatement) → asStart t ≡ statementStart s at → t ≡ Started x then → asStatement r ≡ statementRest h x s then → asStatement r ≡ statement h s at
+  unfolding statement
+  statement-read x then r e f g = simp (← e, f, g)

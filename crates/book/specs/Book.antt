@@ -1,0 +1,79 @@
+-- The whole book: header, concepts, statements, and nothing behind them.
+use Prim.Native.Nat.{ℕ, zero, suc, _<_}
+use mathlib.Core.Path.{_≡_}
+use mathlib.Core.List.{List, [], _∷_, _++_}
+use lib.ListN.{length, getD}
+use lib.Dec.{leb}
+use Rattle.book.specs.declared.header.Counts.{Counts}
+use Rattle.book.specs.declared.statement.Axiom.{Axiom}
+use Rattle.book.specs.declared.field.Passed.{Passed}
+use Rattle.book.specs.declared.field.Passed.the-variants.{Next as On}
+use Rattle.book.specs.declared.check.Checked.{Checked}
+use Rattle.book.specs.declared.check.Checked.the-variants.{Accepted, Refused}
+use Rattle.book.specs.Read.{Read, value, refusal, onward, Parser, _>>=_, _>>_, give, unless, several}
+use Rattle.book.specs.Field.{asPassed, passed}
+use Rattle.book.specs.Header.{header}
+use Rattle.book.specs.Concept.{concept}
+use Rattle.book.specs.Statement.{statement}
+use Rattle.book.specs.Tree.{Concept, treeOf}
+
+pub record Book : Type 0 where
+  pub counts : Counts
+  pub concepts : List Concept
+  pub statements : List Axiom
+
+-- items are numbered from 0: the concepts below k, each a tree over those before it
+unfoldable pub concepts : Counts → ℕ → Parser (List Concept)
+concepts h zero = give []
+concepts h (suc k) = do
+  ts ← concepts h k
+  c ← concept h k
+  λ s at. value (ts ++ (treeOf s ts c ∷ [])) at
+
+-- refusal n for bytes behind the offset
+abbrev pub atEnd : ℕ → Parser (Unit {0})
+atEnd n s at = unless (leb (length s) at) n s at
+
+unfoldable pub book : Parser Book
+book = do
+  h ← header
+  cs ← concepts h (h .concepts)
+  xs ← several (statement h) (h .statements)
+  atEnd 10
+  give (record { counts = h; concepts = cs; statements = xs })
+
+pub data Decoded : Type 0 where
+  accepted : Book → Decoded
+  refused : ℕ → Decoded
+
+abbrev pub decoded : Read Book → Decoded
+decoded (value b end) = accepted b
+decoded (refusal n) = refused n
+
+-- THE MEANING of a byte string: a book, or the refusal of its first fault from front to back
+unfoldable pub decode : List ℕ → Decoded
+decode s = decoded (book s 0)
+
+-- where a value ends
+abbrev pub behind : {A : Type 0} → Read A → ℕ
+behind (value a next) = next
+behind (refusal n) = 0
+
+-- where the record of concept k starts; of the first number that is no concept's, where the statements start
+unfoldable pub conceptOffset : List ℕ → ℕ → ℕ
+conceptOffset s k = behind (onward (header s 0) λ h at. concepts h k s at)
+
+-- what the check answers
+abbrev pub checkOf : List ℕ → Decoded → Checked
+checkOf s (accepted b) = Accepted (b .counts) (conceptOffset s (b .counts .concepts))
+checkOf s (refused n) = Refused n
+
+-- going over the concept records notes where each one starts, as far as there is room
+pub record ConceptsPassed (s : List ℕ) (h : Counts) (at : ℕ) (r : Passed) (offsets : List ℕ) : Type 0 where
+  pub ends : asPassed r ≡ passed (concepts h (h .concepts) s at)
+  pub starts : (e : ℕ) → r ≡ On e → (k : ℕ) → k < h .concepts → k < length offsets → getD offsets k 0 ≡ behind (concepts h k s at)
+
+-- the check of a book: its answer, and where each concept record of an accepted book starts, as far as there is room
+pub record BookChecked (s : List ℕ) (r : Checked) (offsets : List ℕ) : Type 0 where
+  pub answer : r ≡ checkOf s (decode s)
+  pub starts : (b : Book) → decode s ≡ accepted b → (k : ℕ) → k < b .counts .concepts → k < length offsets → getD offsets k 0 ≡ conceptOffset s k
