@@ -1,3 +1,4 @@
 pub mod Parsing
 pub mod Past
+pub mod Accepted
 pub mod Examples

@@ -1,6 +1,6 @@
 -- Records that keep to the book's counts.
 use Prim.Native.Nat.{ℕ, _+_, _*_, _≤_, _<_}
-use mathlib.Core.List.{List}
+use mathlib.Core.List.{List, [], _∷_}
 use lib.ListN.{length}
 use Rattle.book.specs.declared.role.Role.{Role}
 use Rattle.book.specs.declared.header.Counts.{Counts}
@@ -13,6 +13,11 @@ use Rattle.book.specs.declared.statement.Axiom.{Axiom}
 use Rattle.book.specs.declared.statement.Axiom.the-variants.{SubClassOf, EquivalentClasses, DisjointClasses, InverseObjectProperties, SubObjectPropertyOf, TransitiveRole, SymmetricRole, FunctionalRole, InverseFunctionalRole, ObjectPropertyDomain, ObjectPropertyRange, SameIndividual, ClassAssertion, ObjectPropertyAssertion}
 use Rattle.book.specs.Role.{roleId}
 use Rattle.book.specs.Field.{numberAt}
+
+-- what holds of every member of a list
+abbrev pub Every : {A : Type 0} → (A → Type 0) → List A → Type 0
+Every P [] = Unit {0}
+Every P (x ∷ xs) = P x × Every P xs
 
 abbrev pub RoleWithin : Counts → Role → Type 0
 RoleWithin h r = roleId r < h .roles

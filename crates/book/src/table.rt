@@ -30,51 +30,51 @@ const CONCEPT_MAPS: [u32; 12] = [
     0x2C, // Max
 ];
 
-// Three places for each kind of statement, filled by the one map of a kind that has one; there is no kind 0.
+// Three places for each kind of statement, filled by the one map of a kind that has one.
 const STATEMENT_MAPS: [u32; 45] = [
+    0x00, // no kind 0
     0x00,
     0x00,
-    0x00,
+    0x30, // SubClassOf
     0x30,
     0x30,
+    0x30, // EquivalentClasses
     0x30,
     0x30,
+    0x30, // DisjointClasses
     0x30,
     0x30,
-    0x30,
-    0x30,
-    0x30,
+    0x03, // InverseObjectProperties
     0x03,
     0x03,
-    0x03,
-    0x09,
-    0x0B,
-    0x0F,
+    0x09, // SubObjectPropertyOf: a path of one,
+    0x0B, // of two,
+    0x0F, // of three
+    0x01, // TransitiveRole
     0x01,
     0x01,
+    0x01, // SymmetricRole
     0x01,
     0x01,
+    0x01, // FunctionalRole
     0x01,
     0x01,
+    0x01, // InverseFunctionalRole
     0x01,
     0x01,
-    0x01,
-    0x01,
-    0x01,
-    0x01,
+    0x11, // ObjectPropertyDomain
     0x11,
     0x11,
+    0x11, // ObjectPropertyRange
     0x11,
     0x11,
-    0x11,
-    0x11,
+    0xC0, // SameIndividual
     0xC0,
     0xC0,
-    0xC0,
+    0x50, // ClassAssertion
     0x50,
     0x50,
-    0x50,
-    0xC1,
+    0xC1, // ObjectPropertyAssertion
     0xC1,
     0xC1,
 ];

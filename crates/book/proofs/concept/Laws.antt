@@ -80,3 +80,49 @@ module _ (k : ℕ) (s : List ℕ) (at : ℕ) (p : Parts) (next : ℕ) where
   list-within bit d t =
       let a = came (byte s at) _ p next (simp (ne-eqb bit 0 d) at t) in
       listed (a .0) (a .1) (byte-goes s at (a .0) (a .1) (a .2) .1) (a .3)
+
+-- the rule of the table: the fields that a kind's expression takes are those whose bits stand in the kind's map
+module _ (s : List ℕ) (h : Counts) (k : ℕ) (v : List ℕ) (parts : Parts) (n : ℕ) where
+  abbrev Keeps : ℕ → ℕ → Type 0
+  Keeps kind map =
+      ((j : ℕ) → j < 16 → (bitAt (map % 16) j ≡ 0 → ⊥) → getD v j 0 < getD (conceptLimits h k) j 0)
+      → ((map / 16 % 2 ≡ 0 → ⊥) → PartsWithin s k parts)
+      → ConceptWithin s h k (conceptOf kind v parts n)
+
+  kinds-keep : (kind : ℕ) → kind < 12 → Keeps kind (conceptMap kind)
+  kinds-keep zero l f g = tt
+  kinds-keep (suc zero) l f g = tt
+  kinds-keep (suc (suc zero)) l f g = f 0 (lit< tt) (omega arith)
+  kinds-keep (suc (suc (suc zero))) l f g = f 1 (lit< tt) (omega arith)
+  kinds-keep (suc (suc (suc (suc zero)))) l f g = role-below _ _ (f 2 (lit< tt) (omega arith))
+  kinds-keep (suc (suc (suc (suc (suc zero))))) l f g = f 3 (lit< tt) (omega arith)
+  kinds-keep (suc (suc (suc (suc (suc (suc zero)))))) l f g = g (omega arith)
+  kinds-keep (suc (suc (suc (suc (suc (suc (suc zero))))))) l f g = g (omega arith)
+  kinds-keep (suc (suc (suc (suc (suc (suc (suc (suc zero)))))))) l f g = (role-below _ _ (f 2 (lit< tt) (omega arith)), f 3 (lit< tt) (omega arith))
+  kinds-keep (suc (suc (suc (suc (suc (suc (suc (suc (suc zero))))))))) l f g = (role-below _ _ (f 2 (lit< tt) (omega arith)), f 3 (lit< tt) (omega arith))
+  kinds-keep (suc (suc (suc (suc (suc (suc (suc (suc (suc (suc zero)))))))))) l f g = (role-below _ _ (f 2 (lit< tt) (omega arith)), f 3 (lit< tt) (omega arith))
+  kinds-keep (suc (suc (suc (suc (suc (suc (suc (suc (suc (suc (suc zero))))))))))) l f g = (role-below _ _ (f 2 (lit< tt) (omega arith)), f 3 (lit< tt) (omega arith))
+  kinds-keep (suc (suc (suc (suc (suc (suc (suc (suc (suc (suc (suc (suc m)))))))))))) l f g = absurd (omega arith)
+
+-- the record of concept k
+module _ (s : List ℕ) (h : Counts) (k at : ℕ) (x : ConceptExpr) (next : ℕ) (read : concept h k s at ≡ value x next) where
+  pub concept-within : ConceptWithin s h k x
+  unfolding concept conceptRest conceptTail
+  concept-within =
+      let a = came (conceptStart s at) _ x next read in
+      let st = start-known s at (a .0) (a .1) (a .2) in
+      let b = came (fields (a .0 .map % 16) (conceptLimits h k) noValues 9 s (a .1)) _ x next (a .3) in
+      let c = came (partList (a .0 .map / 16 % 2) k s (b .1)) _ x next (b .3) in
+      let d = came (bound (a .0 .map / 32 % 2) s (c .1)) _ x next (c .3) in
+      let e = same-value (conceptOf (a .0 .kind) (b .0) (c .0) (d .0)) x (d .1) next (d .3) in
+      let keeps = subst (Keeps s h k (b .0) (c .0) (d .0) (a .0 .kind)) (sym (st .map-known)) (kinds-keep s h k (b .0) (c .0) (d .0) (a .0 .kind) (st .kind-known)) in
+      subst (ConceptWithin s h k) (e .0)
+      (keeps
+      (λ j l set. ⊎-elim (λ low. low) (λ gone. absurd (set (gone .0))) (fields-range (conceptLimits h k) 9 s (b .0) (b .1) (a .0 .map % 16) noValues (a .1) refl (b .2) j l))
+      (λ set. list-within k s (b .1) (c .0) (c .1) (a .0 .map / 16 % 2) set (c .2)))
+
+-- a part list, part by part
+module _ (s : List ℕ) (p : Parts) (inside : p .at + 2 * p .len ≤ length s) (i : ℕ) (l : i < p .len) where
+  pub part-numbered : partAt s p i ≡ Number (numberAt s (p .at + 2 * i))
+  unfolding partAt twoBytes
+  part-numbered = let g : p .at + 2 * i + 2 ≤ length s = omega arith in simp (lt-ltb _ _ l, le-leb _ _ g)

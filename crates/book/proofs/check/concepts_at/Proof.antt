@@ -1,3 +1,4 @@
+-- `concepts_at` meets its contract. The invariant: the records below k are passed, and their starts are noted.
 use Prim.Native.Nat.{_-_, _≤_}
 use mathlib.Core.Path.{_≡_}
 use native.Mathlib.Omega.{arith}

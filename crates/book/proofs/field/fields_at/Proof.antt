@@ -1,3 +1,4 @@
+-- `fields_at` meets its contract. The invariant: what is left of the walk over the bits gives what the whole walk gives.
 use Prim.Native.Nat.{_-_, _≤_}
 use mathlib.Core.Path.{_≡_}
 use native.Mathlib.Omega.{arith}

@@ -1,3 +1,4 @@
+-- `axiom_of` meets its contract, arm by arm; the last arm has every kind that is none of 1 to 13.
 use Prim.Native.Nat.{zero-le}
 use borrow.Author.Needs.{needs}
 use Rattle.book.specs.Statement.{axiomOf}

@@ -1,3 +1,4 @@
+-- `statement_rest` meets its contract.
 use borrow.Author.Needs.{needs}
 use Rattle.book.proofs.statement.Ways.{rest-unread, rest-read}
 use Rattle.book.proofs.statement.statement_rest.Statement.{statement}

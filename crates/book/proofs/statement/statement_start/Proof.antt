@@ -1,3 +1,4 @@
+-- `statement_start` meets its contract: one law for each way out.
 use borrow.Author.Needs.{needs}
 use Rattle.book.proofs.statement.Ways.{start-ways}
 use Rattle.book.proofs.statement.statement_start.Statement.{statement}

@@ -1,0 +1,133 @@
+"""The book format in Python, written from the requirements and not from the Rattle: a reader with the
+refusal numbers, and a writer of records. The tests hold the two against each other.
+
+A concept is (kind, fields) with the fields in the order of their bits; the fields of an And or Or are
+its part numbers. A statement is (kind, map, fields). Role fields are twice the role's number, plus 1 for
+the inverse.
+"""
+import struct
+
+LIMITS = (256, 64, 512, 4096, 4096)  # classes, roles, individuals, concepts, statements
+CLASSES, ROLES, INDIVIDUALS, CONCEPTS, STATEMENTS = range(5)
+
+TOP, BOT, ATOMIC, NOMINAL, SELF, NOT, AND, OR, SOME, ALL, MIN, MAX = range(12)
+CONCEPT_MAPS = (0x00, 0x00, 0x01, 0x02, 0x04, 0x08, 0x10, 0x10, 0x0C, 0x0C, 0x2C, 0x2C)
+
+(SUB_CLASS, EQUIVALENT, DISJOINT, INVERSE, SUB_ROLE, TRANSITIVE, SYMMETRIC, FUNCTIONAL,
+ INVERSE_FUNCTIONAL, DOMAIN, RANGE, SAME, CLASS_ASSERTION, ROLE_ASSERTION) = range(1, 15)
+STATEMENT_MAPS = {
+    SUB_CLASS: (0x30,), EQUIVALENT: (0x30,), DISJOINT: (0x30,), INVERSE: (0x03,), SUB_ROLE: (0x09, 0x0B, 0x0F),
+    TRANSITIVE: (0x01,), SYMMETRIC: (0x01,), FUNCTIONAL: (0x01,), INVERSE_FUNCTIONAL: (0x01,),
+    DOMAIN: (0x11,), RANGE: (0x11,), SAME: (0xC0,), CLASS_ASSERTION: (0x50,), ROLE_ASSERTION: (0xC1,),
+}
+
+
+class Refused(Exception):
+    """The book's first fault: its number, and the offset behind the field or record that has it."""
+
+    def __init__(self, number, at):
+        super().__init__(f'refused {number} at {at}')
+        self.number, self.at = number, at
+
+
+class Book:
+    def __init__(self, counts, concepts, statements):
+        self.counts, self.concepts, self.statements = counts, concepts, statements
+
+
+class Cursor:
+    def __init__(self, data):
+        self.data, self.at = data, 0
+
+    def number(self, size):
+        if len(self.data) - self.at < size:
+            raise Refused(4, self.at)
+        self.at += size
+        return int.from_bytes(self.data[self.at - size:self.at], 'little')
+
+    def below(self, limit):
+        value = self.number(2)
+        if value >= limit:
+            raise Refused(9, self.at)
+        return value
+
+
+def read(data):
+    """The book, or Refused."""
+    cursor = Cursor(data)
+    header = cursor.number(1)
+    if header >> 5:
+        raise Refused(5, cursor.at)
+    counts = [0] * 5
+    for bit in range(5):
+        if header >> bit & 1:
+            counts[bit] = cursor.number(2)
+            if counts[bit] == 0:
+                raise Refused(5, cursor.at)
+            if counts[bit] > LIMITS[bit]:
+                raise Refused(6, cursor.at)
+    concepts = [read_concept(cursor, counts, k) for k in range(counts[CONCEPTS])]
+    statements = [read_statement(cursor, counts) for _ in range(counts[STATEMENTS])]
+    if cursor.at < len(data):
+        raise Refused(10, cursor.at)
+    return Book(counts, concepts, statements)
+
+
+def read_concept(cursor, counts, k):
+    kind = cursor.number(1)
+    if kind >= len(CONCEPT_MAPS):
+        raise Refused(7, cursor.at)
+    map_ = cursor.number(1)
+    if map_ != CONCEPT_MAPS[kind]:
+        raise Refused(8, cursor.at)
+    limits = (counts[CLASSES], counts[INDIVIDUALS], 2 * counts[ROLES], k)
+    fields = [cursor.below(limits[bit]) for bit in range(4) if map_ >> bit & 1]
+    if map_ >> 4 & 1:
+        fields += [cursor.below(k) for _ in range(cursor.number(1))]
+    if map_ >> 5 & 1:
+        fields.append(cursor.number(4))
+    return kind, fields
+
+
+def read_statement(cursor, counts):
+    kind = cursor.number(1)
+    if kind not in STATEMENT_MAPS:
+        raise Refused(7, cursor.at)
+    map_ = cursor.number(2)
+    if map_ not in STATEMENT_MAPS[kind]:
+        raise Refused(8, cursor.at)
+    role, concept, individual = 2 * counts[ROLES], counts[CONCEPTS], counts[INDIVIDUALS]
+    limits = (role, role, role, role, concept, concept, individual, individual)
+    return kind, map_, [cursor.below(limits[bit]) for bit in range(8) if map_ >> bit & 1]
+
+
+def u16(*values):
+    return struct.pack(f'<{len(values)}H', *values)
+
+
+def header(counts):
+    map_ = sum(1 << bit for bit in range(5) if counts[bit])
+    return bytes([map_]) + u16(*(n for n in counts if n))
+
+
+def concept(kind, *fields):
+    """The bytes of a concept record; the bound of Min and Max is the last field."""
+    out = bytes([kind, CONCEPT_MAPS[kind]])
+    if kind in (AND, OR):
+        return out + bytes([len(fields)]) + u16(*fields)
+    if kind in (MIN, MAX):
+        return out + u16(*fields[:-1]) + struct.pack('<I', fields[-1])
+    return out + u16(*fields)
+
+
+def statement(kind, *fields):
+    """The bytes of a statement record; a path's map goes by the number of its roles."""
+    maps = STATEMENT_MAPS[kind]
+    map_ = maps[0] if len(maps) == 1 else next(m for m in maps if bin(m).count('1') == len(fields))
+    return bytes([kind]) + u16(map_) + u16(*fields)
+
+
+def write(counts, concepts, statements):
+    """The bytes of a book from records given as (kind, field, ..); concept and statement counts are theirs."""
+    counts = (*counts[:3], len(concepts), len(statements))
+    return header(counts) + b''.join(concept(*c) for c in concepts) + b''.join(statement(*s) for s in statements)
