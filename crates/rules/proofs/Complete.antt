@@ -1,0 +1,336 @@
+-- Plain books: the world that is read off the conclusions.
+use Prim.Native.Nat.{ℕ, zero, suc, _+_, _-_, _*_, _/_, _%_, _<_, _≤_}
+use native.Mathlib.Decide.{decLt}
+use native.Mathlib.Omega.{arith}
+use mathlib.Core.Path.{_≡_, refl, ap, sym, _∙_, subst}
+use mathlib.Core.Bool.{Bool, true, false, _&&_, _||_}
+use mathlib.Core.List.{List, [], _∷_, _++_}
+use lib.Dec.{eqb, ltb}
+use borrow.Author.Tests.{lt-ltb, le-ltb, ltb-true, ltb-false}
+use Rattle.book.specs.Read.{pick}
+use Rattle.book.specs.declared.header.Counts.{Counts}
+use Rattle.book.specs.declared.statement.SubRolePath.{SubRolePath}
+use Rattle.book.specs.declared.statement.SubRolePath.the-variants.{One, Two, Three}
+use Rattle.book.specs.declared.statement.Axiom.{Axiom}
+use Rattle.book.specs.declared.statement.Axiom.the-variants.{SubClassOf, EquivalentClasses, DisjointClasses, InverseObjectProperties, SubObjectPropertyOf, TransitiveRole, SymmetricRole, FunctionalRole, InverseFunctionalRole, ObjectPropertyDomain, ObjectPropertyRange, SameIndividual, ClassAssertion, ObjectPropertyAssertion}
+use Rattle.book.specs.Header.{Limits}
+use Rattle.book.specs.Within.{Every, RoleWithin, Within, PathWithin}
+use Rattle.book.specs.Tree.{Concept, Concepts, Top, Atomic, Nominal, Some, And, none, more}
+use Rattle.book.specs.Book.{Book}
+use Rattle.book.specs.declared.role.Role.{Role}
+use Rattle.book.specs.declared.role.Role.the-variants.{Named, Inverse}
+use Rattle.rules.specs.Fact.{edge, type, cap, two}
+use Rattle.rules.specs.Rule.{Set, Rule, Obeys, given, every, any, some}
+use Rattle.rules.specs.Brought.{concept, Value, from, leaves, leavesIn, listed, parts, atomicOf, valueOf, atomics, directAtomics, values}
+use Rattle.rules.specs.ToldSame.{sameBy, label, same}
+use Rattle.rules.specs.Meaning.{told, brings, bring, swap, path1, path2, path3, ifNamed, under, domain, range, share, sharing, ruleOf, rules, conclusions}
+use Rattle.rules.specs.Clash.{disjointBy, disjoint, typeClash, markerClash, clashes}
+use Rattle.rules.specs.World.{World, Thing, leads, Leads, Of, OfAll, Under, Apart, PathUnder, True, Fits, TypeTrue, EdgeTrue}
+use Rattle.rules.specs.Plain.{IsAtomic, anAtomic, Simple, simpleAtomic, simpleTop, simpleValue, Each, eachNone, eachMore, Right, rightSimple, rightAnd, Asserted, assertedSimple, assertedAnd, AllAsserted, assertedNone, assertedMore, Reach, reachAtomic, reachAnd, IsNamed, PlainPath, PlainStatement, Plain}
+use Rattle.rules.proofs.Tests.{false-true, not-true, or-none, any-none, some-none, and-intro, every-map, every-and, every-left, every-right, every-swap, from-every}
+use Rattle.rules.proofs.Least.{obeys-every, obeys-given}
+use Rattle.rules.proofs.Facts.{edge-named, edge-flipped}
+use Rattle.rules.proofs.Reading.{directAtomics-have, values-have}
+use Rattle.rules.proofs.Inside.{ConceptIn, listed-in, Inside}
+use Rattle.rules.proofs.Conclusions.{conclusions-obey, conclusions-own, atomics-in}
+use Rattle.rules.proofs.Tally.{OfEdge, OfType, own-of}
+use Rattle.rules.proofs.Labels.{Related, label-told, label-own, label-in, same-of}
+
+-- things: the individuals, or 0 if there are none; an individual's thing is its label
+unfoldable pub isThing : Book → ℕ → Bool
+isThing B x = ltb x (B .counts .individuals + (1 - B .counts .individuals))
+
+abbrev pub home : Book → ℕ → ℕ
+home B x = pick (ltb x (B .counts .individuals)) x 0
+
+pub home-thing : (B : Book) (x : ℕ) → isThing B (home B x) ≡ true
+unfolding isThing
+home-thing B x = go (ltb x (B .counts .individuals)) refl
+  where
+    go : (b : Bool) → ltb x (B .counts .individuals) ≡ b → ltb (pick b x 0) (B .counts .individuals + (1 - B .counts .individuals)) ≡ true
+    go true e = lt-ltb x (B .counts .individuals + (1 - B .counts .individuals)) (omega (arith, ltb-true x (B .counts .individuals) e))
+    go false e = lt-ltb 0 (B .counts .individuals + (1 - B .counts .individuals)) (omega arith)
+
+unfoldable pub canonical : Book → World
+canonical B = record {
+  thing = isThing B;
+  anyone = home B 0;
+  anyone-thing = home-thing B 0;
+  ind = λ i. home B (label B i);
+  ind-thing = λ i. home-thing B (label B i);
+  cls = λ c x. conclusions B (type x c);
+  rol = λ r x y. conclusions B (edge (Named r) x y);
+}
+
+module _ (B : Book) (inside : Inside B) where
+  abbrev S : Set
+  S = conclusions B
+
+  abbrev W : World
+  W = canonical B
+
+  abbrev h : Counts
+  h = B .counts
+
+  abbrev n : ℕ
+  n = B .counts .individuals
+
+  obeys-named : (P : Set) (r : Role) (R : Rule) → IsNamed r → Obeys (ifNamed r R) P → Obeys R P
+  obeys-named P (Named r) R p o = o
+  obeys-named P (Inverse r) R p o = absurd p
+
+  -- a role leads in the world where its edge is concluded
+  leads-is : (ρ : Role) (x y : ℕ) → leads W ρ x y ≡ S (edge ρ x y)
+  unfolding leads canonical edge
+  leads-is (Named r) x y = refl
+  leads-is (Inverse r) x y = refl
+
+  to-edge : (ρ : Role) (x y : ℕ) → Leads W ρ x y → S (edge ρ x y) ≡ true
+  to-edge ρ x y l = sym (leads-is ρ x y) ∙ l
+
+  of-edge : (ρ : Role) (x y : ℕ) → S (edge ρ x y) ≡ true → Leads W ρ x y
+  of-edge ρ x y l = leads-is ρ x y ∙ l
+
+  to-type : (x c : ℕ) → W .cls c x ≡ true → S (type x c) ≡ true
+  unfolding canonical
+  to-type x c e = e
+
+  of-type : (x c : ℕ) → S (type x c) ≡ true → W .cls c x ≡ true
+  unfolding canonical
+  of-type x c e = e
+
+  thing-lt : (x : ℕ) → Thing W x → x < 512
+  unfolding canonical isThing
+  thing-lt x t = omega (arith, ltb-true x (n + (1 - n)) t, inside .limits .individuals-top)
+
+  -- what is concluded is of the book's own individuals
+  type-own : (x c : ℕ) → c < h .classes → S (type x c) ≡ true → x < n
+  unfolding type
+  type-own x c l e =
+      let w = own-of h (inside .limits) (type x c) (conclusions-own B inside (type x c) e) .1 (omega arith) in
+      omega (arith, w .0, inside .limits .classes-top)
+
+  named-own : (r x y : ℕ) → r < h .roles → x < 512 → y < 512 → S (edge (Named r) x y) ≡ true → (x < n) × (y < n)
+  named-own r x y l i j e =
+      let q = edge-named r x y in
+      let k : edge (Named r) x y < 16777216 = omega (arith, inside .limits .roles-top) in
+      let w = own-of h (inside .limits) (edge (Named r) x y) (conclusions-own B inside (edge (Named r) x y) e) .0 k in
+      let a : edge (Named r) x y / 512 % 512 ≡ x = omega arith in
+      let b : edge (Named r) x y % 512 ≡ y = omega arith in
+      (omega (arith, w .1), omega (arith, w .2))
+
+  edge-own : (ρ : Role) (x y : ℕ) → RoleWithin h ρ → Thing W x → Thing W y → S (edge ρ x y) ≡ true → (x < n) × (y < n)
+  edge-own (Named r) x y l tx ty e = named-own r x y l (thing-lt x tx) (thing-lt y ty) e
+  edge-own (Inverse r) x y l tx ty e =
+      let w = named-own r y x l (thing-lt y ty) (thing-lt x tx) (subst (λ (k : ℕ). S k ≡ true) (edge-flipped (Named r) x y) e) in
+      (w .1, w .0)
+
+  -- the rules are obeyed, those of the statements and rule 6
+  obeyed : Every (λ s. Obeys (ruleOf B s) S) (B .statements)
+  unfolding rules
+  obeyed = obeys-every S (ruleOf B) (B .statements) (conclusions-obey B inside .0)
+
+  shared : (i j : ℕ) → i < n → j < n → label B i ≡ label B j → Obeys (share n (h .classes) (h .roles) i j) S
+  unfolding rules
+  shared i j k l e = obeys-given S (same B i j) (share n (h .classes) (h .roles) i j) (conclusions-obey B inside .1 i k j l) (same-of B i j e)
+
+  type-to : (i j c : ℕ) → i < n → j < n → c < h .classes → label B i ≡ label B j → S (type i c) ≡ true → S (type j c) ≡ true
+  type-to i j c k l m e = shared i j k l e .0 c m
+
+  named-to : (r a a′ b b′ : ℕ) → r < h .roles → a < n → a′ < n → b < n → b′ < n → label B a ≡ label B a′ → label B b ≡ label B b′ → S (edge (Named r) a b) ≡ true → S (edge (Named r) a′ b′) ≡ true
+  named-to r a a′ b b′ m i i′ j j′ e f q = shared b b′ j j′ f .1 r m a′ i′ .1 (shared a a′ i i′ e .1 r m b j .0 q)
+
+  edge-to : (ρ : Role) (a a′ b b′ : ℕ) → RoleWithin h ρ → a < n → a′ < n → b < n → b′ < n → label B a ≡ label B a′ → label B b ≡ label B b′ → S (edge ρ a b) ≡ true → S (edge ρ a′ b′) ≡ true
+  edge-to (Named r) a a′ b b′ m i i′ j j′ e f q = named-to r a a′ b b′ m i i′ j j′ e f q
+  edge-to (Inverse r) a a′ b b′ m i i′ j j′ e f q =
+      subst (λ (k : ℕ). S k ≡ true) (sym (edge-flipped (Named r) a′ b′))
+      (named-to r b b′ a a′ m j j′ i i′ f e (subst (λ (k : ℕ). S k ≡ true) (edge-flipped (Named r) a b) q))
+
+  -- an individual's thing
+  ind-is : (i : ℕ) → i < n → W .ind i ≡ label B i
+  unfolding canonical
+  ind-is i l = ap (λ (b : Bool). pick b (label B i) 0) (lt-ltb (label B i) n (label-in B inside i l))
+
+  label-lt : (i : ℕ) → i < n → W .ind i < n
+  label-lt i l = subst (λ (x : ℕ). x < n) (sym (ind-is i l)) (label-in B inside i l)
+
+  label-same : (i : ℕ) → i < n → label B i ≡ label B (W .ind i)
+  label-same i l = label-own B i ∙ ap (label B) (sym (ind-is i l))
+
+  -- what an expression asks of x is concluded
+  abbrev AClass : ℕ → ℕ → Type 0
+  AClass x c = S (type x c) ≡ true
+
+  abbrev AValue : ℕ → Value → Type 0
+  AValue x v = (RoleWithin h (v .role) × (v .to < n)) × (S (edge (v .role) x (v .to)) ≡ true)
+
+  simple-of : (x : ℕ) → x < n → (e : Concept) → Simple e → Every (AClass x) (atomicOf e) → Every (AValue x) (valueOf e) → Of W e x
+  simple-of x l e (simpleAtomic c) p q = of-type x c (p .0)
+  simple-of x l e simpleTop p q = tt
+  simple-of x l e (simpleValue ρ b) p q =
+      λ none-there. none-there (W .ind b) (W .ind-thing b) (of-edge ρ x (W .ind b) (edge-to ρ x x b (W .ind b) (q .0 .0 .0) l l (q .0 .0 .1) (label-lt b (q .0 .0 .1)) refl (label-same b (q .0 .0 .1)) (q .0 .1))) refl
+
+  simple-leaf : (P : Concept → Type 0) (e : Concept) → Simple e → Every P (leaves e) → P e
+  simple-leaf P e (simpleAtomic c) p = p .0
+  simple-leaf P e simpleTop p = p .0
+  simple-leaf P e (simpleValue ρ b) p = p .0
+
+  simple-part : (P : Concept → Type 0) (e : Concept) → Simple e → Every P (parts e) → P e
+  simple-part P e (simpleAtomic c) p = p .0
+  simple-part P e simpleTop p = p .0
+  simple-part P e (simpleValue ρ b) p = p .0
+
+  abbrev Classes : ℕ → Concept → Type 0
+  Classes x l = Every (AClass x) (atomicOf l)
+
+  abbrev Values : ℕ → Concept → Type 0
+  Values x l = Every (AValue x) (valueOf l)
+
+  each-of : (x : ℕ) → x < n → (es : Concepts) → Each Simple es → Every (Classes x) (listed es) → Every (Values x) (leavesIn es) → OfAll W es x
+  each-of x l es eachNone p q = tt
+  each-of x l es (eachMore {e = e} {es = fs} s r) p q = (simple-of x l e s (p .0) (simple-leaf (Values x) e s (every-left (Values x) (leaves e) (leavesIn fs) q)), each-of x l fs r (p .1) (every-right (Values x) (leaves e) (leavesIn fs) q))
+
+  right-of : (x : ℕ) → x < n → (e : Concept) → Right e → Every (AClass x) (directAtomics e) → Every (AValue x) (values e) → Of W e x
+  unfolding directAtomics values
+  right-of x l e r p q = go e r (from-every (AClass x) atomicOf (parts e) p) (from-every (AValue x) valueOf (leaves e) q)
+    where
+      go : (e : Concept) → Right e → Every (Classes x) (parts e) → Every (Values x) (leaves e) → Of W e x
+      go e (rightSimple s) p q = simple-of x l e s (simple-part (Classes x) e s p) (simple-leaf (Values x) e s q)
+      go e (rightAnd {es = es} s) p q = each-of x l es s p q
+
+  mutual
+    nested-of : (x : ℕ) → x < n → (e : Concept) → Asserted e → Every (Classes x) (leaves e) → Every (Values x) (leaves e) → Of W e x
+    nested-of x l e (assertedSimple s) p q = simple-of x l e s (simple-leaf (Classes x) e s p) (simple-leaf (Values x) e s q)
+    nested-of x l e (assertedAnd {es = es} a) p q = all-of x l es a p q
+
+    all-of : (x : ℕ) → x < n → (es : Concepts) → AllAsserted es → Every (Classes x) (leavesIn es) → Every (Values x) (leavesIn es) → OfAll W es x
+    all-of x l es assertedNone p q = tt
+    all-of x l es (assertedMore {e = e} {es = fs} a r) p q = (
+      nested-of x l e a (every-left (Classes x) (leaves e) (leavesIn fs) p) (every-left (Values x) (leaves e) (leavesIn fs) q),
+      all-of x l fs r (every-right (Classes x) (leaves e) (leavesIn fs) p) (every-right (Values x) (leaves e) (leavesIn fs) q),
+    )
+
+  asserted-of : (x : ℕ) → x < n → (e : Concept) → Asserted e → Every (AClass x) (atomics e) → Every (AValue x) (values e) → Of W e x
+  unfolding atomics values
+  asserted-of x l e a p q = nested-of x l e a (from-every (AClass x) atomicOf (leaves e) p) (from-every (AValue x) valueOf (leaves e) q)
+
+  atomic-of : (x : ℕ) (e : Concept) → IsAtomic e → Classes x e → Of W e x
+  atomic-of x e (anAtomic c) p = of-type x c (p .0)
+
+  reach-of : (x : ℕ) (e : Concept) → Reach e → Every (AClass x) (directAtomics e) → Of W e x
+  unfolding directAtomics
+  reach-of x e r p = go e r (from-every (AClass x) atomicOf (parts e) p)
+    where
+      part : (e : Concept) → IsAtomic e → Every (Classes x) (parts e) → Classes x e
+      part e (anAtomic c) p = p .0
+
+      all : (es : Concepts) → Each IsAtomic es → Every (Classes x) (listed es) → OfAll W es x
+      all es eachNone p = tt
+      all es (eachMore {e = e} {es = fs} a r) p = (atomic-of x e a (p .0), all fs r (p .1))
+
+      go : (e : Concept) → Reach e → Every (Classes x) (parts e) → Of W e x
+      go e (reachAtomic a) p = atomic-of x e a (part e a p)
+      go e (reachAnd {es = es} a) p = all es a p
+
+  -- the left side of a plain statement
+  left : (P : ℕ → Type 0) (e : Concept) → IsAtomic e → ((c : ℕ) → e ≡ Atomic c → P c) → Every P (atomicOf e)
+  left P e (anAtomic c) f = (f c refl, tt)
+
+  values-in : (e : Concept) → ConceptIn h e → Every (λ (v : Value). RoleWithin h (v .role) × (v .to < n)) (values e)
+  values-in e k = values-have (ConceptIn h) (listed-in h) (λ (v : Value). RoleWithin h (v .role) × (v .to < n)) (λ r b i. i) e k
+
+  sub-true : (l r : Concept) → IsAtomic l → ConceptIn h l → ConceptIn h r → ((x : ℕ) → x < n → Every (AClass x) (directAtomics r) → Every (AValue x) (values r) → Of W r x) → Obeys (bring n l r) S → Under W l r
+  sub-true l r (anAtomic c) k m f o x tx g =
+      let i = type-own x c k (to-type x c g) in
+      f x i (every-map _ (AClass x) (λ d p. p x i (to-type x c g)) (directAtomics r) (obeys-every S _ (directAtomics r) (o .0 .0)))
+      (every-map _ (AValue x) (λ v p. (p .0, p .1 x i (to-type x c g))) (values r) (every-and _ _ (values r) (values-in r m) (obeys-every S _ (values r) (o .0 .1))))
+
+  right-true : (c d : ℕ) → IsAtomic (concept B c) → Right (concept B d) → Obeys (bring n (concept B c) (concept B d)) S → Under W (concept B c) (concept B d)
+  right-true c d a r o = sub-true (concept B c) (concept B d) a (inside .concepts c) (inside .concepts d) (λ x l p q. right-of x l (concept B d) r p q) o
+
+  atomic-right : (e : Concept) → IsAtomic e → Right e
+  atomic-right e (anAtomic c) = rightSimple (simpleAtomic c)
+
+  apart-true : (c d : ℕ) → IsAtomic (concept B c) → IsAtomic (concept B d) → ((x : ℕ) → x < n → Every (λ p. (S (type x (p .one)) && S (type x (p .other))) ≡ false) (disjointBy B (DisjointClasses c d))) → Apart W (concept B c) (concept B d)
+  apart-true c d a b calm = go (concept B c) (concept B d) a b (inside .concepts c) calm
+    where
+      go : (l r : Concept) → IsAtomic l → IsAtomic r → ConceptIn h l → ((x : ℕ) → x < n → Every (λ p. (S (type x (p .one)) && S (type x (p .other))) ≡ false) (from (atomicOf l) λ u. from (atomicOf r) λ v. two u v ∷ [])) → Apart W l r
+      go l r (anAtomic u) (anAtomic v) k f x tx p q = false-true (sym (f x (type-own x u k (to-type x u p)) .0) ∙ and-intro (S (type x u)) (S (type x v)) (to-type x u p) (to-type x v q))
+
+  swap-true : (ρ σ : Role) → RoleWithin h ρ → Obeys (swap n ρ σ) S → (x y : ℕ) → Thing W x → Thing W y → Leads W ρ x y → Leads W σ y x
+  swap-true ρ σ k o x y tx ty l = let e = to-edge ρ x y l in let i = edge-own ρ x y k tx ty e in of-edge σ y x (o x (i .0) y (i .1) e)
+
+  path-true : (p : SubRolePath) (τ : Role) → PlainPath p → PathWithin h p → Obeys (under n p τ) S → PathUnder W p τ
+  path-true (One ρ) τ pl w o = λ x y tx ty l.
+      let e = to-edge ρ x y l in
+      let i = edge-own ρ x y w tx ty e in
+      of-edge τ x y (obeys-named S ρ (path1 n ρ τ) pl o x (i .0) y (i .1) e)
+  path-true (Two ρ σ) τ pl w o = λ x u y tx tu ty l m.
+      let e = to-edge ρ x u l in
+      let f = to-edge σ u y m in
+      let i = edge-own ρ x u (w .0) tx tu e in
+      of-edge τ x y (o x (i .0) u (i .1) e y (edge-own σ u y (w .1) tu ty f .1) f)
+  path-true (Three ρ σ υ) τ pl w o = λ x u v y tx tu tv ty l m k.
+      let e = to-edge ρ x u l in
+      let f = to-edge σ u v m in
+      let g = to-edge υ v y k in
+      let i = edge-own ρ x u (w .0) tx tu e in
+      let j = edge-own υ v y (w .2) tv ty g in
+      of-edge τ x y (o x (i .0) u (i .1) e v (j .0) f y (j .1) g)
+
+  abbrev Calm : Axiom → Type 0
+  Calm s = (x : ℕ) → x < n → Every (λ p. (S (type x (p .one)) && S (type x (p .other))) ≡ false) (disjointBy B s)
+
+  plain-true : (s : Axiom) → PlainStatement B s → Within h s → Calm s → Every (Related (λ a b. label B a ≡ label B b)) (sameBy s) → Obeys (ruleOf B s) S → True W B s
+  plain-true (SubClassOf c d) p w k t o = right-true c d (p .0) (p .1) o
+  plain-true (EquivalentClasses c d) p w k t o = (right-true c d (p .0) (atomic-right (concept B d) (p .1)) (o .0), right-true d c (p .1) (atomic-right (concept B c) (p .0)) (o .1))
+  plain-true (DisjointClasses c d) p w k t o = apart-true c d (p .0) (p .1) k
+  plain-true (InverseObjectProperties ρ σ) p w k t o = λ x y tx ty. (swap-true ρ σ (w .0) (o .0) x y tx ty, swap-true σ ρ (w .1) (o .1) y x ty tx)
+  plain-true (SubObjectPropertyOf q τ) p w k t o = path-true q τ p (w .0) o
+  plain-true (TransitiveRole ρ) p w k t o = path-true (Two ρ ρ) ρ tt (w, w) o
+  plain-true (SymmetricRole ρ) p w k t o = λ x y tx ty. (swap-true ρ ρ w o x y tx ty, swap-true ρ ρ w o y x ty tx)
+  plain-true (FunctionalRole ρ) p w k t o = absurd p
+  plain-true (InverseFunctionalRole ρ) p w k t o = absurd p
+  plain-true (ObjectPropertyDomain ρ c) p w k t o = λ x y tx ty l.
+      let e = to-edge ρ x y l in
+      let i = edge-own ρ x y (w .0) tx ty e in
+      reach-of x (concept B c) (p .1) (every-map _ (AClass x) (λ d f. f x (i .0) y (i .1) e) (directAtomics (concept B c)) (obeys-every S _ (directAtomics (concept B c)) (obeys-named S ρ _ (p .0) o)))
+  plain-true (ObjectPropertyRange ρ c) p w k t o = λ x y tx ty l.
+      let e = to-edge ρ x y l in
+      let i = edge-own ρ x y (w .0) tx ty e in
+      reach-of y (concept B c) (p .1) (every-map _ (AClass y) (λ d f. f x (i .0) y (i .1) e) (directAtomics (concept B c)) (obeys-every S _ (directAtomics (concept B c)) (obeys-named S ρ _ (p .0) o)))
+  plain-true (SameIndividual a b) p w k t o = ind-is a (w .0) ∙ (t .0 ∙ sym (ind-is b (w .1)))
+  plain-true (ClassAssertion c i) p w k t o =
+      asserted-of (W .ind i) (label-lt i (w .1)) (concept B c) p
+      (every-map _ (AClass (W .ind i)) (λ d f. type-to i (W .ind i) d (w .1) (label-lt i (w .1)) (f .0) (label-same i (w .1)) (f .1)) (atomics (concept B c)) (every-and _ _ (atomics (concept B c)) (atomics-in B inside c) (obeys-every S _ (atomics (concept B c)) (o .0))))
+      (every-map _ (AValue (W .ind i)) (λ v f. (f .0, edge-to (v .role) i (W .ind i) (v .to) (v .to) (f .0 .0) (w .1) (label-lt i (w .1)) (f .0 .1) (f .0 .1) (label-same i (w .1)) refl (f .1))) (values (concept B c)) (every-and _ _ (values (concept B c)) (values-in (concept B c) (inside .concepts c)) (obeys-every S _ (values (concept B c)) (o .1))))
+  plain-true (ObjectPropertyAssertion ρ a b) p w k t o =
+      of-edge ρ (W .ind a) (W .ind b) (edge-to ρ a (W .ind a) b (W .ind b) (w .0) (w .1) (label-lt a (w .1)) (w .2) (label-lt b (w .2)) (label-same a (w .1)) (label-same b (w .2)) o)
+
+  -- without a clash the world fits
+  calm-every : clashes B S ≡ false → Every Calm (B .statements)
+  unfolding clashes typeClash
+  calm-every q =
+      every-map (λ s. (k : (x : ℕ) × (x < n)) → Every (λ p. (S (type (k .0) (p .one)) && S (type (k .0) (p .other))) ≡ false) (disjointBy B s)) Calm (λ s f x l. f (x, l)) (B .statements)
+      (every-swap (λ (k : (x : ℕ) × (x < n)) s. Every (λ p. (S (type (k .0) (p .one)) && S (type (k .0) (p .other))) ≡ false) (disjointBy B s)) (B .statements)
+      (λ k. from-every _ (disjointBy B) (B .statements) (some-none _ (disjoint B) (or-none (typeClash B S (k .0)) (markerClash B S (k .0)) (any-none n (λ x. typeClash B S x || markerClash B S x) q (k .0) (k .1)) .0))))
+
+  pub canonical-fits : Plain B → clashes B S ≡ false → Fits W B
+  unfolding Fits Plain
+  canonical-fits plain q =
+      let a = every-and (PlainStatement B) (Within h) (B .statements) plain (inside .statements) in
+      let b = every-and Calm (λ s. Every (Related (λ a b. label B a ≡ label B b)) (sameBy s)) (B .statements) (calm-every q) (from-every (Related (λ a b. label B a ≡ label B b)) sameBy (B .statements) (label-told B)) in
+      every-map (λ s. ((PlainStatement B s × Within h s) × (Calm s × Every (Related (λ a b. label B a ≡ label B b)) (sameBy s))) × Obeys (ruleOf B s) S) (True W B)
+      (λ s k. plain-true s (k .0 .0 .0) (k .0 .0 .1) (k .0 .1 .0) (k .0 .1 .1) (k .1)) (B .statements)
+      (every-and _ _ (B .statements) (every-and _ _ (B .statements) a b) obeyed)
+
+  -- and what is not concluded is false in it
+  pub type-false : (i c : ℕ) → i < n → c < h .classes → TypeTrue W i c → S (type i c) ≡ true
+  type-false i c k l t = type-to (W .ind i) i c (label-lt i k) k l (sym (label-same i k)) (to-type (W .ind i) c t)
+
+  rol-is : (r x y : ℕ) → W .rol r x y ≡ true → S (edge (Named r) x y) ≡ true
+  unfolding canonical
+  rol-is r x y e = e
+
+  pub edge-false : (r a b : ℕ) → r < h .roles → a < n → b < n → EdgeTrue W r a b → S (edge (Named r) a b) ≡ true
+  edge-false r a b j k l t = named-to r (W .ind a) a (W .ind b) b j (label-lt a k) k (label-lt b l) l (sym (label-same a k)) (sym (label-same b l)) (rol-is r (W .ind a) (W .ind b) t)

@@ -1,0 +1,76 @@
+-- Demand 3 on plain books is about something: a book of the table is plain and its run finishes, so there is a world that fits it and has
+-- no fact that is not listed.
+use Prim.Native.Nat.{ℕ}
+use mathlib.Core.Path.{_≡_, refl, ap}
+use mathlib.Core.List.{List, [], _∷_}
+use Rattle.book.specs.Role.{roleOf}
+use Rattle.book.specs.Read.{several}
+use Rattle.book.specs.Field.{byte, twoBytes, fourBytes, field, fieldsFrom, fields}
+use Rattle.book.specs.Table.{statementAllows}
+use Rattle.book.specs.Header.{header}
+use Rattle.book.specs.Concept.{conceptStart, partList, bound, conceptTail, conceptRest, concept}
+use Rattle.book.specs.Statement.{statementStart, pathOf, axiomOf, statementRest, statement}
+use Rattle.book.specs.Tree.{Concept, Atomic, Top, Nominal, Some, And, none, more, partTrees}
+use Rattle.book.specs.Book.{Book, concepts, book, accepted, decode}
+use Rattle.book.specs.declared.role.Role.the-variants.{Named}
+use Rattle.book.specs.declared.statement.SubRolePath.the-variants.{One}
+use Rattle.book.specs.declared.statement.Axiom.the-variants.{SubClassOf, EquivalentClasses, DisjointClasses, SubObjectPropertyOf, ObjectPropertyRange, SameIndividual, ClassAssertion, ObjectPropertyAssertion}
+use Rattle.rules.specs.Ends.{Finished, Outcome, outcome}
+use Rattle.rules.specs.Plain.{anAtomic, simpleAtomic, simpleTop, simpleValue, eachNone, eachMore, rightAnd, assertedSimple, assertedAnd, assertedNone, assertedMore, reachAtomic, Plain}
+use Rattle.rules.specs.Demand.{UnlistedFalse}
+use Rattle.rules.specs.Bars.{Bar, nines, plainBar}
+use Rattle.rules.proofs.Bars.{plain-holds}
+use Rattle.rules.proofs.Demand.{demand}
+
+abbrev pub B : Book
+B = record {
+  counts = record { classes = 4; roles = 2; individuals = 3; concepts = 10; statements = 8 };
+  concepts =
+      Atomic 0 ∷ Atomic 1 ∷ Atomic 2 ∷ Atomic 3 ∷ Top ∷ Nominal 2 ∷ Some (Named 1) (Nominal 2)
+      ∷ And (more (Atomic 1) (more Top (more (Some (Named 1) (Nominal 2)) none)))
+      ∷ And (more (Atomic 0) none)
+      ∷ And (more (And (more (Atomic 0) none)) (more Top none))
+      ∷ [];
+  statements =
+      SubClassOf 0 7 ∷ EquivalentClasses 1 2 ∷ DisjointClasses 0 3 ∷ SubObjectPropertyOf (One (Named 0)) (Named 1) ∷ ObjectPropertyRange (Named 0) 2
+      ∷ SameIndividual 0 1 ∷ ClassAssertion 9 0 ∷ ObjectPropertyAssertion (Named 0) 0 2 ∷ [];
+}
+
+decodes : decode (plainBar .book) ≡ accepted B
+unfolding plainBar roleOf several byte twoBytes fourBytes field fieldsFrom fields statementAllows header conceptStart partList bound conceptTail conceptRest concept statementStart pathOf axiomOf statementRest statement partTrees concepts book decode
+decodes = refl
+
+plain : Plain B
+unfolding Plain
+plain = (
+  (anAtomic 0, rightAnd (eachMore (simpleAtomic 1) (eachMore simpleTop (eachMore (simpleValue (Named 1) 2) eachNone)))),
+  (
+    (anAtomic 1, anAtomic 2),
+    (
+      (anAtomic 0, anAtomic 3),
+      (
+        tt,
+        (
+          (tt, reachAtomic (anAtomic 2)),
+          (
+            tt,
+            (
+              assertedAnd (assertedMore (assertedAnd (assertedMore (assertedSimple (simpleAtomic 0)) assertedNone)) (assertedMore (assertedSimple simpleTop) assertedNone)),
+              (tt, tt),
+            ),
+          ),
+        ),
+      ),
+    ),
+  ),
+)
+
+abbrev run : Outcome
+run = outcome (plainBar .book) (plainBar .budget) (nines (plainBar .typeRoom)) (nines (plainBar .edgeRoom)) (nines (plainBar .pairRoom))
+
+ended : run .end ≡ Finished 8 4 0
+unfolding plainBar
+ended = ap (λ (o : Outcome). o .end) plain-holds
+
+pub separated : UnlistedFalse B run 8 4
+separated = demand (plainBar .book) (plainBar .budget) (nines (plainBar .typeRoom)) (nines (plainBar .edgeRoom)) (nines (plainBar .pairRoom)) B decodes .plain-unlisted plain 8 4 0 ended

@@ -1,0 +1,230 @@
+"""The worked examples: the bars of the requirements, starred ones marked, and further rows for what those
+leave open. Each row has a book, a budget, the lengths of the three lists, and by hand what a run must come
+to: its end as the program prints it, and the types, edges and pairs that it lists.
+
+In a comment p, q are roles 0 and 1, A to D classes 0 to 3.
+"""
+import book_format as f
+
+P, P_INV, Q, Q_INV = 0, 1, 2, 3
+
+
+class Register:
+    """A book under construction: concepts are named by the numbers that the methods return."""
+
+    def __init__(self, classes, roles, individuals):
+        self.counts, self.concepts, self.statements = (classes, roles, individuals), [], []
+
+    def concept(self, kind, *fields):
+        self.concepts.append((kind, *fields))
+        return len(self.concepts) - 1
+
+    def classes(self, n):
+        return [self.concept(f.ATOMIC, c) for c in range(n)]
+
+    def value(self, role, individual):
+        return self.concept(f.SOME, role, self.concept(f.NOMINAL, individual))
+
+    def some(self, role, inner):
+        return self.concept(f.SOME, role, inner)
+
+    def both(self, *parts):
+        return self.concept(f.AND, *parts)
+
+    def tell(self, kind, *fields):
+        self.statements.append((kind, *fields))
+        return self
+
+    def data(self):
+        return f.write(self.counts, self.concepts, self.statements)
+
+
+class Bar:
+    def __init__(self, label, book, end, types=(), edges=(), pairs=(), starred=False, budget=12, room=6, type_room=None, edge_room=None):
+        self.label, self.starred, self.budget, self.end = label, starred, budget, end
+        self.data = book.data() if isinstance(book, Register) else bytes(book)
+        self.type_room = 2 * budget if type_room is None else type_room
+        self.edge_room = 3 * budget if edge_room is None else edge_room
+        self.pair_room = room
+        self.types, self.edges, self.pairs = list(types), list(edges), list(pairs)
+
+
+def bars():
+    out = []
+
+    def row(label, book, end, **rest):
+        out.append(Bar(label, book, end, **rest))
+
+    def star(label, book, end, **rest):
+        row(label, book, end, starred=True, **rest)
+
+    # refusals, and the smallest book
+    star('no bytes: refused 4', [], 'refused 4')
+    star('one byte 00: finished with nothing', [0], 'finished 0 0 0')
+    star('a written count 0: refused 5', [1, 0, 0], 'refused 5')
+    row('a budget above 1,000,000: refused 1', [0], 'refused 1', budget=1000001, type_room=1, edge_room=1, room=1)
+    row('too short an edge list: refused 2, though the type list is too short as well', [0], 'refused 2', budget=2, type_room=3, edge_room=5, room=1)
+    row('too short a type list: refused 3', [0], 'refused 3', budget=2, type_room=3, edge_room=6, room=1)
+    row('a byte behind the last statement: refused 10', [0, 0], 'refused 10')
+
+    # rule 3
+    b = Register(0, 2, 2).tell(f.INVERSE, P, Q).tell(f.ROLE_ASSERTION, P, 0, 1)
+    star('p and q inverse, p(0,1): q(1,0)', b, 'finished 0 2 0', edges=[(0, 0, 1), (1, 1, 0)])
+    b = Register(0, 2, 2).tell(f.INVERSE, P, Q_INV).tell(f.ROLE_ASSERTION, P, 0, 1)
+    star('p and the inverse of q inverse, p(0,1): q(0,1)', b, 'finished 0 2 0', edges=[(0, 0, 1), (1, 0, 1)])
+    b = Register(0, 2, 2).tell(f.INVERSE, P, Q).tell(f.ROLE_ASSERTION, Q, 0, 1)
+    row('p and q inverse, q(0,1): p(1,0)', b, 'finished 0 2 0', edges=[(0, 1, 0), (1, 0, 1)])
+    b = Register(0, 1, 2).tell(f.SYMMETRIC, P).tell(f.ROLE_ASSERTION, P, 0, 1)
+    row('p symmetric, p(0,1): p(1,0)', b, 'finished 0 2 0', edges=[(0, 0, 1), (0, 1, 0)])
+
+    # rule 4
+    b = Register(0, 2, 2).tell(f.SUB_ROLE, P, Q_INV).tell(f.ROLE_ASSERTION, P, 0, 1)
+    star('p under the inverse of q, p(0,1): q(1,0)', b, 'finished 0 2 0', edges=[(0, 0, 1), (1, 1, 0)])
+    b = Register(0, 2, 2).tell(f.SUB_ROLE, P_INV, Q).tell(f.ROLE_ASSERTION, P, 0, 1)
+    row('the inverse of p under q, p(0,1): nothing more', b, 'finished 0 1 0', edges=[(0, 0, 1)])
+    six = [(0, 0, 1), (0, 0, 2), (0, 0, 3), (0, 1, 2), (0, 1, 3), (0, 2, 3)]
+    b = Register(0, 1, 4).tell(f.TRANSITIVE, P)
+    for a in range(3):
+        b.tell(f.ROLE_ASSERTION, P, a, a + 1)
+    star('p transitive, p(0,1), p(1,2), p(2,3), budget 6: 6 edges', b, 'finished 0 6 0', edges=six, budget=6)
+    star('the same with budget 5: spent', b, 'spent', budget=5)
+    b = Register(0, 2, 4).tell(f.SUB_ROLE, P, P, P, Q)
+    for a in range(3):
+        b.tell(f.ROLE_ASSERTION, P, a, a + 1)
+    row('the path p, p, p under q', b, 'finished 0 4 0', edges=[(0, 0, 1), (0, 1, 2), (0, 2, 3), (1, 0, 3)])
+    b = Register(0, 2, 3).tell(f.SUB_ROLE, P_INV, P, Q_INV).tell(f.ROLE_ASSERTION, P, 0, 1).tell(f.ROLE_ASSERTION, P, 0, 2)
+    row('the path of the inverse of p, p under the inverse of q', b, 'finished 0 6 0', edges=[(0, 0, 1), (0, 0, 2), (1, 1, 1), (1, 1, 2), (1, 2, 1), (1, 2, 2)])
+
+    # rule 6
+    b = Register(0, 1, 2).tell(f.SAME, 0, 1).tell(f.ROLE_ASSERTION, P, 0, 0)
+    star('0 same as 1, p(0,0): 4 edges', b, 'finished 0 4 0', edges=[(0, 0, 0), (0, 0, 1), (0, 1, 0), (0, 1, 1)])
+    b = Register(0, 1, 2).tell(f.SAME, 0, 1).tell(f.ROLE_ASSERTION, P, 1, 1)
+    row('0 same as 1, p(1,1): 4 edges', b, 'finished 0 4 0', edges=[(0, 0, 0), (0, 0, 1), (0, 1, 0), (0, 1, 1)])
+    b = Register(1, 0, 4)
+    a, = b.classes(1)
+    row('0 same as 1, 0 same as 2, 1:A: 0:A and 2:A', b.tell(f.SAME, 0, 1).tell(f.SAME, 0, 2).tell(f.CLASS_ASSERTION, a, 1), 'finished 3 0 0', types=[(0, 0), (1, 0), (2, 0)])
+
+    # rules 1 and 2
+    def nested(b):
+        a, x, c, d = b.classes(4)
+        return a, b.both(x, b.both(c, d))
+    b = Register(4, 0, 1)
+    a, e = nested(b)
+    star('A under B and (C and D), 0:A: B, not C', b.tell(f.SUB_CLASS, a, e).tell(f.CLASS_ASSERTION, a, 0), 'finished 2 0 0', types=[(0, 0), (0, 1)])
+    b = Register(4, 0, 1)
+    a, e = nested(b)
+    star('B and (C and D) asserted: B, C and D', b.tell(f.CLASS_ASSERTION, e, 0), 'finished 3 0 0', types=[(0, 1), (0, 2), (0, 3)])
+    b = Register(1, 0, 1)
+    a, = b.classes(1)
+    row('A under Bot, 0:A: no clash', b.tell(f.SUB_CLASS, a, b.concept(f.BOT)).tell(f.CLASS_ASSERTION, a, 0), 'finished 1 0 0', types=[(0, 0)])
+    b = Register(1, 1, 2)
+    v = b.value(P, 1)
+    a, = b.classes(1)
+    row('(Some(p, Nominal 1) and A) asserted one And deeper', b.tell(f.CLASS_ASSERTION, b.both(b.both(v, a)), 0), 'finished 1 1 0', types=[(0, 0)], edges=[(0, 0, 1)])
+    b = Register(1, 1, 2)
+    v = b.value(P_INV, 1)
+    a, = b.classes(1)
+    row('A under Some(inverse of p, Nominal 1), 0:A: p(1,0)', b.tell(f.SUB_CLASS, a, v).tell(f.CLASS_ASSERTION, a, 0), 'finished 1 1 0', types=[(0, 0)], edges=[(0, 1, 0)])
+    b = Register(2, 1, 2)
+    a, x = b.classes(2)
+    e = b.both(x, b.both(b.value(P, 1)))
+    row('A under B and (Some(p, Nominal 1)), 0:A: B and p(0,1)', b.tell(f.SUB_CLASS, a, e).tell(f.CLASS_ASSERTION, a, 0), 'finished 2 1 0', types=[(0, 0), (0, 1)], edges=[(0, 0, 1)])
+    b = Register(2, 0, 1)
+    a, x = b.classes(2)
+    row('A and B equivalent, 0:B: A', b.tell(f.EQUIVALENT, a, x).tell(f.CLASS_ASSERTION, x, 0), 'finished 2 0 0', types=[(0, 0), (0, 1)])
+    b = Register(3, 0, 1)
+    a, x, c = b.classes(3)
+    row('A equivalent to B and C, 0:B: nothing more', b.tell(f.EQUIVALENT, a, b.both(x, c)).tell(f.CLASS_ASSERTION, x, 0), 'finished 1 0 0', types=[(0, 1)])
+    b = Register(3, 0, 1)
+    a, x, c = b.classes(3)
+    row('B and C equivalent to A, 0:A: B and C', b.tell(f.EQUIVALENT, b.both(x, c), a).tell(f.CLASS_ASSERTION, a, 0), 'finished 3 0 0', types=[(0, 0), (0, 1), (0, 2)])
+    b = Register(2, 0, 1)
+    a, x = b.classes(2)
+    row('an And of A alone under B, 0:A: nothing more', b.tell(f.SUB_CLASS, b.both(a), x).tell(f.CLASS_ASSERTION, a, 0), 'finished 1 0 0', types=[(0, 0)])
+
+    # rule 5
+    b = Register(1, 1, 2)
+    a, = b.classes(1)
+    row('the domain of p is A, p(0,1): 0:A', b.tell(f.DOMAIN, P, a).tell(f.ROLE_ASSERTION, P, 0, 1), 'finished 1 1 0', types=[(0, 0)], edges=[(0, 0, 1)])
+    b = Register(1, 1, 2)
+    a, = b.classes(1)
+    row('the domain of the inverse of p is A, p(0,1): nothing more', b.tell(f.DOMAIN, P_INV, a).tell(f.ROLE_ASSERTION, P, 0, 1), 'finished 0 1 0', edges=[(0, 0, 1)])
+    b = Register(1, 1, 2)
+    a, = b.classes(1)
+    row('the range of the inverse of p is A, p(0,1): nothing more', b.tell(f.RANGE, P_INV, a).tell(f.ROLE_ASSERTION, P, 0, 1), 'finished 0 1 0', edges=[(0, 0, 1)])
+    b = Register(4, 1, 2)
+    a, e = nested(b)
+    row('the range of p is B and (C and D), p(0,1): 1:B', b.tell(f.RANGE, P, e).tell(f.ROLE_ASSERTION, P, 0, 1), 'finished 1 1 0', types=[(1, 1)], edges=[(0, 0, 1)])
+
+    # rule 7 and same pairs
+    b = Register(1, 4, 7)
+    a, = b.classes(1)
+    v = b.value(6, 6)
+    b.tell(f.FUNCTIONAL, 0).tell(f.FUNCTIONAL, 2).tell(f.RANGE, 4, a).tell(f.SUB_CLASS, a, v).tell(f.CLASS_ASSERTION, a, 1)
+    for r, x, y in [(0, 0, 1), (0, 0, 2), (2, 3, 2), (2, 3, 4), (4, 5, 4)]:
+        b.tell(f.ROLE_ASSERTION, r, x, y)
+    star('the worked book of seven individuals', b, 'finished 3 8 2', types=[(1, 0), (2, 0), (4, 0)],
+         edges=[(0, 0, 1), (0, 0, 2), (1, 3, 2), (1, 3, 4), (2, 5, 4), (3, 1, 6), (3, 2, 6), (3, 4, 6)], pairs=[(1, 2), (2, 4)])
+    row('the same with a pair list of two entries: refused 11', b, 'refused 11', room=2)
+    b = Register(1, 1, 3)
+    a, = b.classes(1)
+    b.tell(f.INVERSE_FUNCTIONAL, P).tell(f.ROLE_ASSERTION, P, 1, 0).tell(f.ROLE_ASSERTION, P, 2, 0).tell(f.CLASS_ASSERTION, a, 1)
+    row('p inverse functional, p(1,0), p(2,0), 1:A: 2:A', b, 'finished 2 2 1', types=[(1, 0), (2, 0)], edges=[(0, 1, 0), (0, 2, 0)], pairs=[(1, 2)])
+
+    # clash
+    b = Register(1, 0, 1)
+    a, = b.classes(1)
+    star('A disjoint from A, 0:A: clash', b.tell(f.DISJOINT, a, a).tell(f.CLASS_ASSERTION, a, 0), 'clash 1 0')
+
+    def marked(b, role=P):
+        a, c, d = b.classes(3)
+        return a, c, d, b.both(b.some(role, c), b.some(role, d))
+    b = Register(3, 1, 1)
+    a, c, d, e = marked(b)
+    row('markers (p,B) and (p,C), p functional, B and C disjoint: clash', b.tell(f.FUNCTIONAL, P).tell(f.DISJOINT, c, d).tell(f.SUB_CLASS, a, e).tell(f.CLASS_ASSERTION, a, 0), 'clash 1 0')
+    b = Register(3, 1, 1)
+    a, c, d, e = marked(b)
+    row('the same concepts asserted: no marker', b.tell(f.FUNCTIONAL, P).tell(f.DISJOINT, c, d).tell(f.CLASS_ASSERTION, e, 0), 'finished 0 0 0')
+    b = Register(2, 1, 1)
+    a, c = b.classes(2)
+    row('markers of one class that is disjoint from itself: no clash', b.tell(f.FUNCTIONAL, P).tell(f.DISJOINT, c, c).tell(f.SUB_CLASS, a, b.some(P, c)).tell(f.CLASS_ASSERTION, a, 0), 'finished 1 0 0', types=[(0, 0)])
+    b = Register(4, 1, 2)
+    a, x, c, d = b.classes(4)
+    b.tell(f.FUNCTIONAL, P).tell(f.DISJOINT, c, d).tell(f.SUB_CLASS, a, b.some(P, c)).tell(f.SUB_CLASS, x, b.some(P, d))
+    row('markers of two individuals: no clash', b.tell(f.CLASS_ASSERTION, a, 0).tell(f.CLASS_ASSERTION, x, 1), 'finished 2 0 0', types=[(0, 0), (1, 1)])
+    b = Register(3, 1, 1)
+    a, c, d, e = marked(b)
+    row('markers of a role that is not functional: no clash', b.tell(f.DISJOINT, c, d).tell(f.SUB_CLASS, a, e).tell(f.CLASS_ASSERTION, a, 0), 'finished 1 0 0', types=[(0, 0)])
+    b = Register(3, 1, 1)
+    a, c, d = b.classes(3)
+    e = b.both(b.some(P, c), b.both(b.some(P, d)))
+    row('markers at any And depth, from the left of an equivalence: clash', b.tell(f.FUNCTIONAL, P).tell(f.DISJOINT, c, d).tell(f.EQUIVALENT, e, a).tell(f.CLASS_ASSERTION, a, 0), 'clash 1 0')
+    b = Register(3, 1, 1)
+    a, c, d, e = marked(b)
+    row('markers of p, the inverse of p inverse functional: clash', b.tell(f.INVERSE_FUNCTIONAL, P_INV).tell(f.DISJOINT, c, d).tell(f.EQUIVALENT, a, e).tell(f.CLASS_ASSERTION, a, 0), 'clash 1 0')
+    b = Register(3, 1, 1)
+    a, c, d, e = marked(b, P_INV)
+    row('Some of an inverse sets no marker', b.tell(f.FUNCTIONAL, P).tell(f.FUNCTIONAL, P_INV).tell(f.DISJOINT, c, d).tell(f.SUB_CLASS, a, e).tell(f.CLASS_ASSERTION, a, 0), 'finished 1 0 0', types=[(0, 0)])
+    b = Register(3, 1, 1)
+    a, c, d, e = marked(b)
+    row('markers of p, p inverse functional: no clash', b.tell(f.INVERSE_FUNCTIONAL, P).tell(f.DISJOINT, c, d).tell(f.SUB_CLASS, a, e).tell(f.CLASS_ASSERTION, a, 0), 'finished 1 0 0', types=[(0, 0)])
+    b = Register(4, 1, 1)
+    a, c, d, sup = b.classes(4)
+    e = b.both(b.some(P, c), b.some(P, d))
+    b.tell(f.FUNCTIONAL, P).tell(f.DISJOINT, sup, d).tell(f.SUB_CLASS, c, sup).tell(f.SUB_CLASS, a, e).tell(f.CLASS_ASSERTION, a, 0)
+    row("a marker is not one of the filler's superclasses", b, 'finished 1 0 0', types=[(0, 0)])
+    b = Register(3, 1, 1)
+    a, c, d, e = marked(b)
+    row('an And of A alone brings no marker', b.tell(f.FUNCTIONAL, P).tell(f.DISJOINT, c, d).tell(f.SUB_CLASS, b.both(a), e).tell(f.CLASS_ASSERTION, a, 0), 'finished 1 0 0', types=[(0, 0)])
+
+    # a plain book, for which the proofs show that the theorem on plain books is about something
+    b = Register(4, 2, 3)
+    a, x, c, d = b.classes(4)
+    top = b.concept(f.TOP)
+    right = b.both(x, top, b.value(Q, 2))
+    told = b.both(b.both(a), top)
+    b.tell(f.SUB_CLASS, a, right).tell(f.EQUIVALENT, x, c).tell(f.DISJOINT, a, d).tell(f.SUB_ROLE, P, Q).tell(f.RANGE, P, c)
+    b.tell(f.SAME, 0, 1).tell(f.CLASS_ASSERTION, told, 0).tell(f.ROLE_ASSERTION, P, 0, 2)
+    row('a plain book', b, 'finished 8 4 0', types=[(0, 0), (0, 1), (0, 2), (1, 0), (1, 1), (1, 2), (2, 1), (2, 2)],
+        edges=[(0, 0, 2), (0, 1, 2), (1, 0, 2), (1, 1, 2)])
+    return out
