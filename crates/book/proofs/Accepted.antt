@@ -3,29 +3,27 @@ use Prim.Native.Nat.{ℕ, zero, suc, _+_, _*_, _-_, _≤_, _<_}
 use native.Mathlib.Omega.{arith}
 use native.Mathlib.Decide.{decLt}
 use mathlib.Core.Path.{_≡_, refl, sym, ap, ap₂, _∙_, subst}
-use mathlib.Core.Bool.{Bool, true, false}
 use mathlib.Core.List.{List, [], _∷_, _++_, append-nil}
-use lib.ListN.{length, getD, length-append, List·getD-append}
+use lib.ListN.{length, length-append, List·getD-append}
 use lib.Seq.{getD-at}
 use lib.Dec.{leb}
 use borrow.Author.Tests.{leb-true}
 use Rattle.book.specs.declared.header.Counts.{Counts}
-use Rattle.book.specs.declared.concept.Parts.{Parts}
 use Rattle.book.specs.declared.concept.ConceptExpr.{ConceptExpr}
 use Rattle.book.specs.declared.concept.ConceptExpr.the-variants.{Top, Bot, Atomic, Nominal, SelfRestriction, Not, And, Or, Some, All, Min, Max}
 use Rattle.book.specs.declared.statement.Axiom.{Axiom}
 use Rattle.book.specs.declared.check.Checked.{Checked}
 use Rattle.book.specs.declared.check.Checked.the-variants as Checked
-use Rattle.book.specs.Read.{Read, value, refusal, onward, several}
+use Rattle.book.specs.Read.{Read, value, refusal, several}
 use Rattle.book.specs.Field.{numberAt}
 use Rattle.book.specs.Header.{header, Limits}
 use Rattle.book.specs.Concept.{concept}
 use Rattle.book.specs.Statement.{statement}
-use Rattle.book.specs.Tree.{Concept, Concepts, none, more, nth, partTrees, treeOf}
+use Rattle.book.specs.Tree.{Concept, none, more, nth, partTrees, treeOf}
 use Rattle.book.specs.Book.{Book, concepts, book, Decoded, accepted, refused, decoded, decode, conceptOffset, checkOf, BookChecked}
 use Rattle.book.specs.Reader.{rest}
-use Rattle.book.specs.Within.{Every, PartsWithin, ConceptWithin, Within}
-use Rattle.book.proofs.Parsing.{came, held, same-value, Reached, reached}
+use Rattle.book.specs.Within.{Every, ConceptWithin, Within}
+use Rattle.book.proofs.Parsing.{came, held, same-value, reached}
 use Rattle.book.proofs.header.Laws.{header-limits}
 use Rattle.book.proofs.concept.Laws.{concept-within}
 use Rattle.book.proofs.statement.Laws.{statement-within}

@@ -14,7 +14,7 @@ use Rattle.book.specs.declared.statement.ReadStatement.{ReadStatement}
 use Rattle.book.specs.declared.statement.ReadStatement.the-variants.{Next, Refused}
 use Rattle.book.specs.declared.role.Role.{Role}
 use Rattle.book.specs.Role.{roleOf}
-use Rattle.book.specs.Read.{pick, Read, value, refusal, onward, Parser, _>>=_, _>>_, give, unless}
+use Rattle.book.specs.Read.{pick, Read, value, refusal, Parser, _>>=_, _>>_, give, unless}
 use Rattle.book.specs.Field.{byte, twoBytes, fields}
 use Rattle.book.specs.Table.{statementAllows}
 use Rattle.book.specs.Concept.{noValues}

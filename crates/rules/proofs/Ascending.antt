@@ -1,21 +1,17 @@
 -- The lists ascend, and nothing is listed twice.
 use Prim.Native.Nat.{ℕ, zero, suc, _+_, _*_, _<_, _≤_}
 use native.Mathlib.Omega.{arith}
-use mathlib.Core.Path.{_≡_, refl, sym, subst}
 use mathlib.Core.Bool.{Bool, true, false}
 use mathlib.Core.List.{List, [], _∷_, _++_}
-use Rattle.book.specs.declared.header.Counts.{Counts}
 use Rattle.book.specs.Header.{Limits}
 use Rattle.book.specs.Book.{Book}
-use Rattle.book.specs.declared.role.Role.{Role}
-use Rattle.book.specs.declared.role.Role.the-variants.{Named, Inverse}
+use Rattle.book.specs.declared.role.Role.the-variants.{Named}
 use Rattle.rules.specs.Fact.{edge, type, Two, Three, two, three}
 use Rattle.rules.specs.Rule.{Set}
 use Rattle.rules.specs.Same.{samePair}
 use Rattle.rules.specs.Lists.{gather, only, types, edges, pairs}
 use Rattle.book.specs.Within.{Every}
 use Rattle.rules.proofs.Tests.{every-append, every-map}
-use Rattle.rules.proofs.Facts.{edge-named}
 
 module _ {A : Type 0} (key : A → ℕ) where
   -- each key is below all that come later

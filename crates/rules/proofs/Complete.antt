@@ -1,39 +1,37 @@
 -- Plain books: the world that is read off the conclusions.
-use Prim.Native.Nat.{ℕ, zero, suc, _+_, _-_, _*_, _/_, _%_, _<_, _≤_}
-use native.Mathlib.Decide.{decLt}
+use Prim.Native.Nat.{ℕ, _+_, _-_, _/_, _%_, _<_}
 use native.Mathlib.Omega.{arith}
 use mathlib.Core.Path.{_≡_, refl, ap, sym, _∙_, subst}
 use mathlib.Core.Bool.{Bool, true, false, _&&_, _||_}
-use mathlib.Core.List.{List, [], _∷_, _++_}
-use lib.Dec.{eqb, ltb}
-use borrow.Author.Tests.{lt-ltb, le-ltb, ltb-true, ltb-false}
+use mathlib.Core.List.{[], _∷_}
+use lib.Dec.{ltb}
+use borrow.Author.Tests.{lt-ltb, ltb-true}
 use Rattle.book.specs.Read.{pick}
 use Rattle.book.specs.declared.header.Counts.{Counts}
 use Rattle.book.specs.declared.statement.SubRolePath.{SubRolePath}
 use Rattle.book.specs.declared.statement.SubRolePath.the-variants.{One, Two, Three}
 use Rattle.book.specs.declared.statement.Axiom.{Axiom}
 use Rattle.book.specs.declared.statement.Axiom.the-variants.{SubClassOf, EquivalentClasses, DisjointClasses, InverseObjectProperties, SubObjectPropertyOf, TransitiveRole, SymmetricRole, FunctionalRole, InverseFunctionalRole, ObjectPropertyDomain, ObjectPropertyRange, SameIndividual, ClassAssertion, ObjectPropertyAssertion}
-use Rattle.book.specs.Header.{Limits}
 use Rattle.book.specs.Within.{Every, RoleWithin, Within, PathWithin}
-use Rattle.book.specs.Tree.{Concept, Concepts, Top, Atomic, Nominal, Some, And, none, more}
+use Rattle.book.specs.Tree.{Concept, Concepts, Atomic}
 use Rattle.book.specs.Book.{Book}
 use Rattle.book.specs.declared.role.Role.{Role}
 use Rattle.book.specs.declared.role.Role.the-variants.{Named, Inverse}
-use Rattle.rules.specs.Fact.{edge, type, cap, two}
-use Rattle.rules.specs.Rule.{Set, Rule, Obeys, given, every, any, some}
+use Rattle.rules.specs.Fact.{edge, type, two}
+use Rattle.rules.specs.Rule.{Set, Rule, Obeys}
 use Rattle.rules.specs.Brought.{concept, Value, from, leaves, leavesIn, listed, parts, atomicOf, valueOf, atomics, directAtomics, values}
 use Rattle.rules.specs.ToldSame.{sameBy, label, same}
-use Rattle.rules.specs.Meaning.{told, brings, bring, swap, path1, path2, path3, ifNamed, under, domain, range, share, sharing, ruleOf, rules, conclusions}
+use Rattle.rules.specs.Meaning.{bring, swap, path1, ifNamed, under, share, ruleOf, rules, conclusions}
 use Rattle.rules.specs.Clash.{disjointBy, disjoint, typeClash, markerClash, clashes}
 use Rattle.rules.specs.World.{World, Thing, leads, Leads, Of, OfAll, Under, Apart, PathUnder, True, Fits, TypeTrue, EdgeTrue}
 use Rattle.rules.specs.Plain.{IsAtomic, anAtomic, Simple, simpleAtomic, simpleTop, simpleValue, Each, eachNone, eachMore, Right, rightSimple, rightAnd, Asserted, assertedSimple, assertedAnd, AllAsserted, assertedNone, assertedMore, Reach, reachAtomic, reachAnd, IsNamed, PlainPath, PlainStatement, Plain}
-use Rattle.rules.proofs.Tests.{false-true, not-true, or-none, any-none, some-none, and-intro, every-map, every-and, every-left, every-right, every-swap, from-every}
+use Rattle.rules.proofs.Tests.{false-true, or-none, any-none, some-none, and-intro, every-map, every-and, every-left, every-right, every-swap, from-every}
 use Rattle.rules.proofs.Least.{obeys-every, obeys-given}
 use Rattle.rules.proofs.Facts.{edge-named, edge-flipped}
-use Rattle.rules.proofs.Reading.{directAtomics-have, values-have}
+use Rattle.rules.proofs.Reading.{values-have}
 use Rattle.rules.proofs.Inside.{ConceptIn, listed-in, Inside}
 use Rattle.rules.proofs.Conclusions.{conclusions-obey, conclusions-own, atomics-in}
-use Rattle.rules.proofs.Tally.{OfEdge, OfType, own-of}
+use Rattle.rules.proofs.Tally.{own-of}
 use Rattle.rules.proofs.Labels.{Related, label-told, label-own, label-in, same-of}
 
 -- things: the individuals, or 0 if there are none; an individual's thing is its label

@@ -1,29 +1,27 @@
 -- Demand 3 holds of every run on an accepted book, whatever the budget and the lists.
-use Prim.Native.Nat.{ℕ, zero, suc, _+_, _-_, _*_, _/_, _%_, _<_, _≤_}
-use native.Mathlib.Omega.{arith}
-use mathlib.Core.Path.{_≡_, refl, ap, sym, _∙_, subst}
-use mathlib.Core.Bool.{Bool, true, false}
-use mathlib.Core.List.{List, [], _∷_, _++_}
+use Prim.Native.Nat.{ℕ, _-_, _<_}
+use mathlib.Core.Path.{_≡_, ap, sym, _∙_, subst}
+use mathlib.Core.Bool.{true}
+use mathlib.Core.List.{List, _++_}
 use mathlib.Core.Logic.{inl, inr}
 use lib.ListN.{length, replicate}
 use Rattle.book.specs.Book.{Book, accepted, decode}
-use Rattle.book.specs.declared.role.Role.{Role}
-use Rattle.book.specs.declared.role.Role.the-variants.{Named, Inverse}
+use Rattle.book.specs.declared.role.Role.the-variants.{Named}
 use Rattle.rules.specs.Fact.{edge, type, Two, Three}
 use Rattle.rules.specs.Rule.{Set}
 use Rattle.rules.specs.Meaning.{conclusions}
 use Rattle.rules.specs.Same.{samePair}
-use Rattle.rules.specs.Lists.{types, edges, pairs, entries2, entries3, filled}
-use Rattle.rules.specs.Ends.{End, Refused, Spent, Clash, Finished, Outcome, listing, outcome, Lists2, Lists3}
+use Rattle.rules.specs.Lists.{types, edges, pairs, entries2, entries3}
+use Rattle.rules.specs.Ends.{Finished, Outcome, outcome, Lists2, Lists3}
 use Rattle.rules.specs.World.{World, leads, Fits, TypeTrue, EdgeTrue, PairTrue}
 use Rattle.rules.specs.Plain.{Plain}
-use Rattle.rules.specs.Demand.{Clashed, Decided, NoWorld, ListedTrue, UnlistedFalse, Demand}
+use Rattle.rules.specs.Demand.{Clashed, Decided, NoWorld, UnlistedFalse, Demand}
 use Rattle.rules.proofs.Inside.{Inside, accepted-inside}
-use Rattle.rules.proofs.Sound.{truth, to-class, to-leads, conclusions-true}
+use Rattle.rules.proofs.Sound.{to-class, to-leads, conclusions-true}
 use Rattle.rules.proofs.SoundClash.{no-clash, pair-true}
 use Rattle.rules.proofs.Listed.{lists2-true, lists3-true, in-lists2, in-lists3, types-every, edges-every, pairs-every, in-types, in-edges}
 use Rattle.rules.proofs.Complete.{canonical, canonical-fits, type-false, edge-false}
-use Rattle.rules.proofs.Ended.{IsFinished, IsClash, ends-finished, ends-clash}
+use Rattle.rules.proofs.Ended.{IsFinished, ends-finished, ends-clash}
 
 module _ (s : List ℕ) (budget : ℕ) (ts es ps : List ℕ) (B : Book) (book : decode s ≡ accepted B) where
   abbrev pub run : Outcome

@@ -1,30 +1,22 @@
 -- What is listed, and how much of it there is.
-use Prim.Native.Nat.{ℕ, zero, suc, _+_, _-_, _*_, _/_, _%_, _<_, _≤_}
-use native.Mathlib.Decide.{ℕ-discrete, decLt}
+use Prim.Native.Nat.{ℕ, zero, suc, _+_, _*_, _<_, _≤_}
+use native.Mathlib.Decide.{ℕ-discrete}
 use native.Mathlib.Omega.{arith}
-use native.Mathlib.Nat.{mul-comm}
-use mathlib.Core.Path.{_≡_, refl, ap, sym, _∙_, subst}
+use mathlib.Core.Path.{_≡_, refl, ap, sym, subst}
 use mathlib.Core.Bool.{Bool, true, false}
 use mathlib.Core.List.{List, [], _∷_, _++_}
-use mathlib.Core.Logic.{_⊎_, inl, inr, ⊎-elim}
-use lib.ListN.{length, getD, length-append}
+use lib.ListN.{length, getD}
 use Rattle.book.specs.declared.header.Counts.{Counts}
-use Rattle.book.specs.Header.{Limits}
 use Rattle.book.specs.Book.{Book}
-use Rattle.book.specs.declared.role.Role.{Role}
-use Rattle.book.specs.declared.role.Role.the-variants.{Named, Inverse}
-use Rattle.rules.specs.Fact.{edge, type, cap, Two, Three, two, three}
+use Rattle.book.specs.declared.role.Role.the-variants.{Named}
+use Rattle.rules.specs.Fact.{edge, type, Two, Three, two, three}
 use Rattle.rules.specs.Rule.{Set}
 use Rattle.rules.specs.Same.{samePair}
 use Rattle.rules.specs.Lists.{gather, only, types, edges, pairs, used, entries2, entries3}
 use Rattle.rules.specs.Ends.{Lists2, Lists3}
 use Rattle.book.specs.Within.{Every}
-use Rattle.rules.specs.Applied.{plus, count}
-use Rattle.rules.proofs.Tests.{false-true, not-true, every-append}
-use Rattle.rules.proofs.Facts.{edge-named, edge-lt}
-use Rattle.rules.proofs.Inside.{Inside}
-use Rattle.rules.proofs.Conclusions.{Own, own-edge, own-type}
-use Rattle.rules.proofs.Sums.{sum, sum-agree, sum-le, sum-append, sum-rows, sum-cut, sum-zero, one, count-sum, length-gather, length-only, length-only-le}
+use Rattle.rules.proofs.Tests.{false-true, every-append}
+use Rattle.rules.proofs.Sums.{sum, sum-le, one, length-gather, length-only-le}
 
 -- membership
 infix 20 _∈_

@@ -1,36 +1,31 @@
 -- What is concluded is true in every world that fits.
-use Prim.Native.Nat.{ℕ, zero, suc, _+_, _*_, _/_, _%_, _<_, _≤_}
+use Prim.Native.Nat.{ℕ, _<_}
 use native.Mathlib.Omega.{arith}
-use mathlib.Core.Path.{_≡_, refl, ap, sym, _∙_, subst}
-use mathlib.Core.Bool.{Bool, true, false}
-use mathlib.Core.List.{List, [], _∷_}
-use lib.Dec.{eqb}
-use borrow.Author.Tests.{eqb-true}
-use Rattle.book.specs.Read.{pick}
+use mathlib.Core.Path.{_≡_, refl, sym, _∙_, subst}
+use mathlib.Core.Bool.{true}
 use Rattle.book.specs.declared.header.Counts.{Counts}
 use Rattle.book.specs.declared.statement.SubRolePath.{SubRolePath}
 use Rattle.book.specs.declared.statement.SubRolePath.the-variants.{One, Two, Three}
 use Rattle.book.specs.declared.statement.Axiom.{Axiom}
 use Rattle.book.specs.declared.statement.Axiom.the-variants.{SubClassOf, EquivalentClasses, DisjointClasses, InverseObjectProperties, SubObjectPropertyOf, TransitiveRole, SymmetricRole, FunctionalRole, InverseFunctionalRole, ObjectPropertyDomain, ObjectPropertyRange, SameIndividual, ClassAssertion, ObjectPropertyAssertion}
-use Rattle.book.specs.Header.{Limits}
 use Rattle.book.specs.Within.{Every, RoleWithin, Within, PathWithin}
 use Rattle.book.specs.Tree.{Concept, Concepts, none, more, Atomic, Nominal, Some, And}
 use Rattle.book.specs.Book.{Book}
 use Rattle.book.specs.Role.{flipped}
 use Rattle.book.specs.declared.role.Role.{Role}
 use Rattle.book.specs.declared.role.Role.the-variants.{Named, Inverse}
-use Rattle.rules.specs.Fact.{edge, type, cap}
-use Rattle.rules.specs.Rule.{Set, Rule, keep, when, each, both, Obeys, given, every}
+use Rattle.rules.specs.Fact.{edge, type}
+use Rattle.rules.specs.Rule.{Set, Rule, Obeys}
 use Rattle.rules.specs.Brought.{concept, Value, listed, atomicOf, atomics, directAtomics, values}
 use Rattle.rules.specs.ToldSame.{sameBy, same}
-use Rattle.rules.specs.Meaning.{told, brings, bring, swap, path1, path2, path3, ifNamed, under, domain, range, merge, share, sharing, ruleOf, rules, conclusions}
-use Rattle.rules.specs.World.{World, Thing, leads, Leads, Of, OfAll, Under, PathUnder, OneFiller, True, Fits}
+use Rattle.rules.specs.Meaning.{brings, bring, swap, path1, ifNamed, under, merge, share, ruleOf, rules, conclusions}
+use Rattle.rules.specs.World.{World, Thing, leads, Leads, Of, Under, PathUnder, OneFiller, True, Fits}
 use Rattle.rules.specs.Applied.{In}
 use Rattle.rules.proofs.Tests.{stable, every-map, every-zip, every-and, every-from}
 use Rattle.rules.proofs.Least.{every-obeys, given-obeys}
 use Rattle.rules.proofs.Facts.{setOf, tested, set-edge, set-type}
 use Rattle.rules.proofs.Reading.{atomicOf-have, atomics-have, directAtomics-have, values-have}
-use Rattle.rules.proofs.Inside.{ConceptIn, listed-in, Inside}
+use Rattle.rules.proofs.Inside.{ConceptIn, Inside}
 use Rattle.rules.proofs.Labels.{Related, same-smallest}
 use Rattle.rules.proofs.Conclusions.{conclusions-least, atomics-in, directAtomics-in, values-in}
 

@@ -1,9 +1,8 @@
 -- A clash leaves no world; same pairs are true.
-use Prim.Native.Nat.{ℕ, zero, suc, _+_, _*_, _/_, _%_, _<_, _≤_}
-use native.Mathlib.Omega.{arith}
-use mathlib.Core.Path.{_≡_, refl, ap, sym, _∙_, subst}
-use mathlib.Core.Bool.{Bool, true, false, not, _&&_, _||_}
-use mathlib.Core.List.{List, [], _∷_, _++_}
+use Prim.Native.Nat.{ℕ, _<_}
+use mathlib.Core.Path.{_≡_, subst}
+use mathlib.Core.Bool.{true, not}
+use mathlib.Core.List.{[], _∷_}
 use mathlib.Core.Logic.{⊎-elim}
 use lib.Dec.{eqb, ltb}
 use borrow.Author.Tests.{eqb-true}
@@ -11,19 +10,18 @@ use Rattle.book.specs.declared.header.Counts.{Counts}
 use Rattle.book.specs.declared.statement.Axiom.{Axiom}
 use Rattle.book.specs.declared.statement.Axiom.the-variants.{SubClassOf, EquivalentClasses, DisjointClasses, InverseObjectProperties, SubObjectPropertyOf, TransitiveRole, SymmetricRole, FunctionalRole, InverseFunctionalRole, ObjectPropertyDomain, ObjectPropertyRange, SameIndividual, ClassAssertion, ObjectPropertyAssertion}
 use Rattle.book.specs.Within.{Every, RoleWithin, Within}
-use Rattle.book.specs.Tree.{Concept, Atomic, Some}
+use Rattle.book.specs.Tree.{Concept, Atomic}
 use Rattle.book.specs.Book.{Book}
-use Rattle.book.specs.Role.{flipped}
 use Rattle.book.specs.declared.role.Role.{Role}
 use Rattle.book.specs.declared.role.Role.the-variants.{Named, Inverse}
-use Rattle.rules.specs.Fact.{edge, type, Two, two}
-use Rattle.rules.specs.Rule.{Set, any, some}
+use Rattle.rules.specs.Fact.{edge, type, Two}
+use Rattle.rules.specs.Rule.{Set}
 use Rattle.rules.specs.Brought.{concept, from, atomicOf, markers, Marker}
 use Rattle.rules.specs.Same.{functionalBy, functional, samePair}
 use Rattle.rules.specs.Clash.{disjointBy, disjoint, Mark, bringMarks, marksBy, marks, marked, bothMarked, typeClash, markerClash, clashes}
-use Rattle.rules.specs.World.{World, Thing, leads, Leads, Of, Under, OneFiller, True, Fits}
+use Rattle.rules.specs.World.{World, Thing, leads, Of, Under, OneFiller, True, Fits}
 use Rattle.rules.specs.Applied.{In}
-use Rattle.rules.proofs.Tests.{false-true, or-cases, and-both, any-some, every-some, every-map, every-and, every-append, every-from}
+use Rattle.rules.proofs.Tests.{false-true, or-cases, and-both, any-some, every-some, every-and, every-append, every-from}
 use Rattle.rules.proofs.Reading.{markers-have}
 use Rattle.rules.proofs.Inside.{Inside}
 use Rattle.rules.proofs.Sound.{truth, Each, all-parts, atomicOf-is, flipped-within, to-class, to-leads, atomic-in}

@@ -1,8 +1,7 @@
 -- Demand 3 on plain books is about something: a book of the table is plain and its run finishes, so there is a world that fits it and has
 -- no fact that is not listed.
-use Prim.Native.Nat.{ℕ}
 use mathlib.Core.Path.{_≡_, refl, ap}
-use mathlib.Core.List.{List, [], _∷_}
+use mathlib.Core.List.{[], _∷_}
 use Rattle.book.specs.Role.{roleOf}
 use Rattle.book.specs.Read.{several}
 use Rattle.book.specs.Field.{byte, twoBytes, fourBytes, field, fieldsFrom, fields}
@@ -10,7 +9,7 @@ use Rattle.book.specs.Table.{statementAllows}
 use Rattle.book.specs.Header.{header}
 use Rattle.book.specs.Concept.{conceptStart, partList, bound, conceptTail, conceptRest, concept}
 use Rattle.book.specs.Statement.{statementStart, pathOf, axiomOf, statementRest, statement}
-use Rattle.book.specs.Tree.{Concept, Atomic, Top, Nominal, Some, And, none, more, partTrees}
+use Rattle.book.specs.Tree.{Atomic, Top, Nominal, Some, And, none, more, partTrees}
 use Rattle.book.specs.Book.{Book, concepts, book, accepted, decode}
 use Rattle.book.specs.declared.role.Role.the-variants.{Named}
 use Rattle.book.specs.declared.statement.SubRolePath.the-variants.{One}
@@ -18,7 +17,7 @@ use Rattle.book.specs.declared.statement.Axiom.the-variants.{SubClassOf, Equiva
 use Rattle.rules.specs.Ends.{Finished, Outcome, outcome}
 use Rattle.rules.specs.Plain.{anAtomic, simpleAtomic, simpleTop, simpleValue, eachNone, eachMore, rightAnd, assertedSimple, assertedAnd, assertedNone, assertedMore, reachAtomic, Plain}
 use Rattle.rules.specs.Demand.{UnlistedFalse}
-use Rattle.rules.specs.Bars.{Bar, nines, plainBar}
+use Rattle.rules.specs.Bars.{nines, plainBar}
 use Rattle.rules.proofs.Bars.{plain-holds}
 use Rattle.rules.proofs.Demand.{demand}
 

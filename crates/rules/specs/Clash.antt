@@ -1,6 +1,6 @@
 -- "Clash": a class and another that is told to be disjoint from it, on one individual; or markers that no one filler can have.
 use Prim.Native.Nat.{ℕ}
-use mathlib.Core.Bool.{Bool, true, false, not, _&&_, _||_}
+use mathlib.Core.Bool.{Bool, false, not, _&&_, _||_}
 use mathlib.Core.List.{List, [], _∷_, _++_}
 use lib.Dec.{eqb}
 use Rattle.book.specs.Tree.{Concept}

@@ -1,7 +1,6 @@
 -- Demand 3: what a run that ends as finished or clash says of the worlds that fit its book.
 use Prim.Native.Nat.{ℕ, _<_}
 use mathlib.Core.Path.{_≡_}
-use mathlib.Core.List.{List}
 use mathlib.Core.Logic.{_⊎_, _↔_}
 use Rattle.book.specs.Book.{Book}
 use Rattle.rules.specs.Ends.{End, Clash, Finished, Outcome, Lists2, Lists3}

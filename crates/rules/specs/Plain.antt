@@ -1,6 +1,5 @@
 -- "Plain" books (section "Plain books and worlds").
 use Prim.Native.Nat.{ℕ}
-use mathlib.Core.List.{List}
 use Rattle.book.specs.Tree.{Concept, Concepts, Top, Atomic, Nominal, And, Some, none, more}
 use Rattle.book.specs.Book.{Book}
 use Rattle.book.specs.Within.{Every}

@@ -1,5 +1,5 @@
 -- The loops over concept records and statements, and the ways out of the check of a whole book.
-use Prim.Native.Nat.{ℕ, zero, suc, _+_, _≤_, _<_, zero-le}
+use Prim.Native.Nat.{ℕ, suc, _+_, _≤_, _<_, zero-le}
 use native.Mathlib.Omega.{arith}
 use native.Mathlib.Decide.{decLt}
 use mathlib.Core.Path.{_≡_, refl, sym, ap, _∙_, subst}
@@ -18,7 +18,6 @@ use Rattle.book.specs.declared.concept.ReadConcept.the-variants.{Next, R
 use Rattle.book.specs.declared.statement.Axiom.{Axiom}
 use Rattle.book.specs.declared.statement.ReadStatement.{ReadStatement}
 use Rattle.book.specs.declared.statement.ReadStatement.the-variants.{Next as Stated, Refused as Unstated}
-use Rattle.book.specs.declared.check.Checked.{Checked}
 use Rattle.book.specs.declared.check.Checked.the-variants.{Accepted, Refused as Faulty}
 use Rattle.book.specs.Read.{Read, value, refusal, onward, several}
 use Rattle.book.specs.Field.{asPassed, passed}
@@ -26,7 +25,7 @@ use Rattle.book.specs.Header.{header, asHeader}
 use Rattle.book.specs.Concept.{concept, asConcept}
 use Rattle.book.specs.Statement.{statement, asStatement}
 use Rattle.book.specs.Tree.{Concept, treeOf}
-use Rattle.book.specs.Book.{Book, concepts, book, accepted, refused, decoded, decode, behind, conceptOffset, checkOf, ConceptsPassed, BookChecked}
+use Rattle.book.specs.Book.{Book, concepts, book, accepted, refused, decode, behind, conceptOffset, checkOf, ConceptsPassed, BookChecked}
 use Rattle.book.proofs.Parsing.{no-value, passed-value, passed-refusal, walk-more, walk-refused, several-none, several-more, several-refused}
 
 -- the concept records are a walk

@@ -1,18 +1,18 @@
 -- A statement that is not refused keeps to the counts, and takes at least three bytes.
-use Prim.Native.Nat.{ℕ, zero, suc, _+_, _*_, _≤_, _<_}
+use Prim.Native.Nat.{ℕ, zero, suc, _<_}
 use native.Mathlib.Omega.{arith}
-use mathlib.Core.Path.{_≡_, refl, sym, ap, _∙_, subst}
+use mathlib.Core.Path.{_≡_, refl, sym, subst}
 use mathlib.Core.Bool.{Bool, true, false, not, _||_}
 use mathlib.Core.List.{List}
 use mathlib.Core.Logic.{⊎-elim}
-use lib.ListN.{length, getD}
+use lib.ListN.{getD}
 use lib.Dec.{ltb, eqb, lit<}
 use borrow.Author.Tests.{ltb-true, eqb-true, eqb-false, not-true}
 use Rattle.book.specs.declared.header.Counts.{Counts}
 use Rattle.book.specs.declared.table.Start.{Start}
 use Rattle.book.specs.declared.statement.Axiom.{Axiom}
 use Rattle.book.specs.Read.{value}
-use Rattle.book.specs.Table.{statementMaps, statementAllows}
+use Rattle.book.specs.Table.{statementAllows}
 use Rattle.book.specs.Field.{byte, twoBytes, fields}
 use Rattle.book.specs.Concept.{noValues}
 use Rattle.book.specs.Statement.{statementStart, statementLimits, pathOf, axiomOf, statementRest, statement}
