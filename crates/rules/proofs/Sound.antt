@@ -14,7 +14,7 @@ use Rattle.book.specs.Book.{Book}
 use Rattle.book.specs.Role.{flipped}
 use Rattle.book.specs.declared.role.Role.{Role}
 use Rattle.book.specs.declared.role.Role.the-variants.{Named, Inverse}
-use Rattle.rules.specs.Fact.{edge, type}
+use Rattle.rules.specs.Fact.{setOf, edge, type}
 use Rattle.rules.specs.Rule.{Set, Rule, Obeys}
 use Rattle.rules.specs.Brought.{concept, Value, listed, atomicOf, atomics, directAtomics, values}
 use Rattle.rules.specs.ToldSame.{sameBy, same}
@@ -23,7 +23,7 @@ use Rattle.rules.specs.World.{World, Thing, leads, Leads, Of, Under, Pat
 use Rattle.rules.specs.Applied.{In}
 use Rattle.rules.proofs.Tests.{stable, every-map, every-zip, every-and, every-from}
 use Rattle.rules.proofs.Least.{every-obeys, given-obeys}
-use Rattle.rules.proofs.Facts.{setOf, tested, set-edge, set-type}
+use Rattle.rules.proofs.Facts.{tested, set-edge, set-type}
 use Rattle.rules.proofs.Reading.{atomicOf-have, atomics-have, directAtomics-have, values-have}
 use Rattle.rules.proofs.Inside.{ConceptIn, Inside}
 use Rattle.rules.proofs.Labels.{Related, same-smallest}

@@ -1,0 +1,4 @@
+-- A run, its open functions, and what they leave.
+pub mod Run
+pub mod Part
+pub mod Exports

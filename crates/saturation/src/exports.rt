@@ -1,0 +1,110 @@
+// The open functions for callers in C and Rust (include/saturation.h). A slice is a pointer and a length.
+ghost use mathlib.Core.Path.{_≡_};
+ghost use Rattle.book.specs.Book.{Book, accepted, decode};
+ghost use Rattle.rules.specs.Ends.{outcome};
+ghost use Rattle.rules.specs.Demand.{Demand};
+ghost use Rattle.verdict.specs.Conclude.{endOf, came};
+ghost use Rattle.saturation.specs.Exports.{codeOf, typeCount, edgeCount, pairCount, filledEntries};
+use super::saturate::saturate;
+use verdict::end::End;
+
+fn code_of(end: End) -> u32
+    ensures { λ r. ⌜ r ≡ codeOf (endOf end) ⌝ }
+{
+    match end {
+        End::Finished(_, _, _) => 0,
+        End::Clash(_, _) => 1,
+        End::Spent => 2,
+        End::Refused(n) => 100 + (n as u32),
+    }
+}
+
+fn types_of(end: End) -> u32
+    ensures { λ r. ⌜ r ≡ typeCount (endOf end) ⌝ }
+{
+    match end {
+        End::Finished(t, _, _) => t,
+        End::Clash(t, _) => t,
+        End::Spent => 0,
+        End::Refused(_) => 0,
+    }
+}
+
+fn edges_of(end: End) -> u32
+    ensures { λ r. ⌜ r ≡ edgeCount (endOf end) ⌝ }
+{
+    match end {
+        End::Finished(_, e, _) => e,
+        End::Clash(_, e) => e,
+        End::Spent => 0,
+        End::Refused(_) => 0,
+    }
+}
+
+fn pairs_of(end: End) -> u32
+    ensures { λ r. ⌜ r ≡ pairCount (endOf end) ⌝ }
+{
+    match end {
+        End::Finished(_, _, p) => p,
+        End::Clash(_, _) => 0,
+        End::Spent => 0,
+        End::Refused(_) => 0,
+    }
+}
+
+// `saturate`, with the end as a number and its counts through pointers.
+#[no_mangle]
+pub extern "C" fn zamoluvel_saturate(
+    book: &[u8],
+    budget: u64,
+    types: &mut [u32],
+    edges: &mut [u32],
+    pairs: &mut [u32],
+    type_count: &mut u32,
+    edge_count: &mut u32,
+    pair_count: &mut u32,
+) -> u32
+    ensures { λ r. ⌜ r ≡ codeOf (outcome (now (book .entry)) budget (now (types .entry)) (now (edges .entry)) (now (pairs .entry)) .end) ⌝ }
+    ensures { λ _. ⌜ now («type_count» .exit) ≡ typeCount (outcome (now (book .entry)) budget (now (types .entry)) (now (edges .entry)) (now (pairs .entry)) .end) ⌝ }
+    ensures { λ _. ⌜ now («edge_count» .exit) ≡ edgeCount (outcome (now (book .entry)) budget (now (types .entry)) (now (edges .entry)) (now (pairs .entry)) .end) ⌝ }
+    ensures { λ _. ⌜ now («pair_count» .exit) ≡ pairCount (outcome (now (book .entry)) budget (now (types .entry)) (now (edges .entry)) (now (pairs .entry)) .end) ⌝ }
+    ensures { λ _. ⌜ now (types .exit) ≡ outcome (now (book .entry)) budget (now (types .entry)) (now (edges .entry)) (now (pairs .entry)) .types ⌝ }
+    ensures { λ _. ⌜ now (edges .exit) ≡ outcome (now (book .entry)) budget (now (types .entry)) (now (edges .entry)) (now (pairs .entry)) .edges ⌝ }
+    ensures { λ _. ⌜ now (pairs .exit) ≡ outcome (now (book .entry)) budget (now (types .entry)) (now (edges .entry)) (now (pairs .entry)) .pairs ⌝ }
+    ensures { λ _. ⌜ ((B : Book) → decode (now (book .entry)) ≡ accepted B → Demand B (outcome (now (book .entry)) budget (now (types .entry)) (now (edges .entry)) (now (pairs .entry)))) ⌝ }
+{
+    let end = saturate(book, budget, types, edges, pairs);
+    *type_count = types_of(end);
+    *edge_count = edges_of(end);
+    *pair_count = pairs_of(end);
+    code_of(end)
+}
+
+fn entries_of(edge_count: u32, pair_count: u32, named: u32) -> usize
+    ensures { λ r. ⌜ r ≡ filledEntries 0 «edge_count» «pair_count» named ⌝ }
+{
+    if named == 0 {
+        return 3 * (edge_count as usize);
+    }
+    if named == 1 {
+        return 2 * (pair_count as usize);
+    }
+    0
+}
+
+// The named part: so many entries from the first on of the edge list (named = 0) or of the pair list (named = 1), as a run with this code and these counts
+// left them. The list is the caller's, and so is the part.
+#[no_mangle]
+pub extern "C" fn zamoluvel_named_part(
+    code: u32,
+    edge_count: u32,
+    pair_count: u32,
+    named: u32,
+) -> usize
+    ensures { λ r. ⌜ r ≡ filledEntries code «edge_count» «pair_count» named ⌝ }
+{
+    if code == 0 {
+        return entries_of(edge_count, pair_count, named);
+    }
+    0
+}

@@ -1,0 +1,63 @@
+use native.Mathlib.Omega.{arith}
+use lib.ListN.{length-set}
+use borrow.Author.Needs.{needs}
+use Rattle.verdict.proofs.list.Writing.{written-three}
+use Rattle.verdict.proofs.list.put_three.Statement.{statement}
+use Rattle.verdict.proofs.list.put_three.Tie as tie
+
+cast-list : tie.Need-cast-list
+cast-list c = search needs
+
+mul-list : tie.Need-mul-list
+mul-list c = search needs
+
+slice-write-list : tie.Need-slice-write-list
+slice-write-list c = search needs
+
+cast-list-2 : tie.Need-cast-list-2
+cast-list-2 c = search needs
+
+add-list : tie.Need-add-list
+add-list c = search needs
+
+mul-list-2 : tie.Need-mul-list-2
+mul-list-2 c = search needs
+
+slice-write-list-2 : tie.Need-slice-write-list-2
+slice-write-list-2 c = simp length-set (omega arith)
+
+cast-list-3 : tie.Need-cast-list-3
+cast-list-3 c = search needs
+
+add-list-2 : tie.Need-add-list-2
+add-list-2 c = search needs
+
+mul-list-3 : tie.Need-mul-list-3
+mul-list-3 c = search needs
+
+slice-write-list-3 : tie.Need-slice-write-list-3
+slice-write-list-3 c = simp length-set (omega arith)
+
+same-length : tie.Need-same-length
+same-length c = search needs
+
+returns : tie.Need-returns
+returns c = written-three _ _ _ _ _ (c .pre .0)
+
+pub put-three-spec : {M : Type 1} → statement M
+put-three-spec =
+    tie.close
+    (tie.spec
+    cast-list
+    mul-list
+    slice-write-list
+    cast-list-2
+    add-list
+    mul-list-2
+    slice-write-list-2
+    cast-list-3
+    add-list-2
+    mul-list-3
+    slice-write-list-3
+    same-length
+    returns)

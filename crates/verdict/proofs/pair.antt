@@ -1,0 +1,4 @@
+pub mod Blanks
+pub mod Passing
+pub mod Fillers
+pub mod Views

@@ -1,0 +1,4 @@
+pub mod Searches
+pub mod Blank
+pub mod Markings
+pub mod Clashes

@@ -1,0 +1,254 @@
+// The verdict: clash.
+ghost use mathlib.Core.Path.{_≡_};
+ghost use mathlib.Core.Bool.{true, false, _&&_};
+ghost use Prim.Native.Nat.{_+_, _-_, _*_, _/_, _≤_, _<_};
+ghost use lib.ListN.{length};
+ghost use Rattle.rows.specs.Row.{has};
+ghost use Rattle.rows.specs.Table.{leads, Sized, Table};
+ghost use Rattle.rules.specs.Rule.{any};
+ghost use Rattle.verdict.specs.Verdict.{meeting, counting, rowClash, rowsClash, markerFor, bringsMarker, markerRow, clashIn, RowsWith};
+use rows::row::gather;
+use rows::row::meets;
+use rows::row::member;
+use rows::row::next;
+use rows::table::Size;
+use rows::table::row_of;
+use rows::table::rows_of;
+use tables::leaf::filler_in;
+use tables::leaf::is_marker;
+use tables::leaf::role_in;
+use tables::size::class_field;
+
+// Whether c and d count: any two classes, or only different ones.
+fn may_clash(own: bool, c: usize, d: usize) -> bool
+    ensures { λ r. ⌜ r ≡ counting own c d ⌝ }
+{
+    if own {
+        return true;
+    }
+    c != d
+}
+
+// Whether the row mask meets that of d, if c and d count. Of a class, the row is the one of its number from `base` on.
+fn rows_meet(mask: &[u64], s: &[u64], base: usize, n: usize, own: bool, c: usize, d: usize) -> bool
+    requires { ⌜ (8 ≤ length (now mask)) × ((base + d) * 8 + 8 ≤ length (now s)) × (n ≤ 512) ⌝ }
+    ensures { λ r. ⌜ r ≡ (counting own c d && meeting n (has (now (mask .entry)) 0) (has (now (s .entry)) (base + d))) ⌝ }
+{
+    if may_clash(own, c, d) {
+        return meets(mask, s, base + d, n);
+    }
+    false
+}
+
+// Whether the row mask meets that of a class that is disjoint from c.
+fn mask_clash(
+    mask: &[u64],
+    s: &[u64],
+    base: usize,
+    size: Size,
+    disjoint: &[u64],
+    own: bool,
+    c: usize,
+) -> bool
+    requires { ⌜ Sized size × (8 ≤ length (now mask)) × ((base + size .classes) * 8 ≤ length (now s)) × (size .classes * 8 ≤ length (now disjoint)) ⌝ }
+    requires { ⌜ c < size .classes ⌝ }
+    ensures { λ r. ⌜ r ≡ any (size .classes) (λ d. has (now (disjoint .entry)) c d && (counting own c d && meeting (size .individuals) (has (now (mask .entry)) 0) (has (now (s .entry)) (base + d)))) ⌝ }
+{
+    let mut d = next(disjoint, c, 0, size.classes);
+    while d < size.classes {
+        if rows_meet(mask, s, base, size.individuals, own, c, d) {
+            return true;
+        }
+        d = next(disjoint, c, d + 1, size.classes);
+    }
+    false
+}
+
+// Whether the row of c meets that of a class that is disjoint from c.
+fn row_clash(s: &[u64], base: usize, size: Size, disjoint: &[u64], own: bool, c: usize) -> bool
+    requires { ⌜ Sized size × ((base + size .classes) * 8 ≤ length (now s)) × (size .classes * 8 ≤ length (now disjoint)) ⌝ }
+    requires { ⌜ c < size .classes ⌝ }
+    ensures { λ r. ⌜ r ≡ rowClash (size .individuals) (size .classes) (now (disjoint .entry)) own (λ x. has (now (s .entry)) (base + x)) c ⌝ }
+{
+    let mut acc = [0u64; 8];
+    gather(&mut acc, 0, s, base + c);
+    mask_clash(&acc, s, base, size, disjoint, own, c)
+}
+
+// Whether the rows of two classes that are disjoint share an individual.
+fn rows_clash(s: &[u64], base: usize, size: Size, disjoint: &[u64], own: bool) -> bool
+    requires { ⌜ Sized size × ((base + size .classes) * 8 ≤ length (now s)) × (size .classes * 8 ≤ length (now disjoint)) ⌝ }
+    ensures { λ r. ⌜ r ≡ rowsClash (size .individuals) (size .classes) (now (disjoint .entry)) own (λ x. has (now (s .entry)) (base + x)) ⌝ }
+{
+    for c in 0..size.classes {
+        if row_clash(s, base, size, disjoint, own, c) {
+            return true;
+        }
+    }
+    false
+}
+
+// The individuals of the row mask have the marker of the leaf x, if x is one under role r: into the row of its class.
+fn put_marker(markers: &mut [u64], mask: &[u64], r: usize, x: u32)
+    requires { ⌜ (length (now markers) ≡ 2048) × (8 ≤ length (now mask)) ⌝ }
+    ensures { λ _. ⌜ RowsWith (now (markers .entry)) (λ d i. markerFor r d x && has (now (mask .entry)) 0 i) (now (markers .exit)) ⌝ }
+{
+    if is_marker(x) {
+        if role_in(x) == r {
+            gather(markers, filler_in(x), mask, 0);
+        }
+    }
+}
+
+// The individuals of the row mask have the markers under role r that class c brings.
+fn put_markers(
+    markers: &mut [u64],
+    mask: &[u64],
+    marks: &[u64],
+    leaves: &[u32],
+    n: usize,
+    r: usize,
+    c: usize,
+)
+    requires { ⌜ (n ≤ length (now leaves)) × (n ≤ 4096) × (c * 64 + 64 ≤ length (now marks)) ⌝ }
+    requires { ⌜ (length (now markers) ≡ 2048) × (8 ≤ length (now mask)) ⌝ }
+    ensures { λ _. ⌜ RowsWith (now (markers .entry)) (λ d i. has (now (mask .entry)) 0 i && bringsMarker (now (marks .entry)) (now (leaves .entry)) n r c d) (now (markers .exit)) ⌝ }
+{
+    let mut k = next(marks, 8 * c, 0, n);
+    while k < n {
+        put_marker(markers, mask, r, leaves[k]);
+        k = next(marks, 8 * c, k + 1, n);
+    }
+}
+
+// The markers under role r that class c brings.
+fn class_markers(
+    markers: &mut [u64],
+    t: &[u64],
+    size: Size,
+    marks: &[u64],
+    leaves: &[u32],
+    n: usize,
+    r: usize,
+    c: usize,
+)
+    requires { ⌜ Table size (now t) ⌝ }
+    requires { ⌜ (n ≤ length (now leaves)) × (n ≤ 4096) × (size .classes * 64 ≤ length (now marks)) ⌝ }
+    requires { ⌜ (length (now markers) ≡ 2048) × (c < size .classes) ⌝ }
+    ensures { λ _. ⌜ RowsWith (now (markers .entry)) (λ d i. leads size (now (t .entry)) (size .fields - 1) c i && bringsMarker (now (marks .entry)) (now (leaves .entry)) n r c d) (now (markers .exit)) ⌝ }
+{
+    let mut acc = [0u64; 8];
+    gather(&mut acc, 0, t, row_of(size, class_field(size), c));
+    put_markers(markers, &acc, marks, leaves, n, r, c);
+}
+
+// The markers under role r that the classes bring.
+fn role_markers(
+    markers: &mut [u64],
+    t: &[u64],
+    size: Size,
+    marks: &[u64],
+    leaves: &[u32],
+    n: usize,
+    r: usize,
+)
+    requires { ⌜ Table size (now t) ⌝ }
+    requires { ⌜ (n ≤ length (now leaves)) × (n ≤ 4096) × (size .classes * 64 ≤ length (now marks)) ⌝ }
+    requires { ⌜ length (now markers) ≡ 2048 ⌝ }
+    ensures { λ _. ⌜ RowsWith (now (markers .entry)) (markerRow size (now (t .entry)) (now (marks .entry)) (now (leaves .entry)) n r (size .classes)) (now (markers .exit)) ⌝ }
+{
+    for c in 0..size.classes {
+        class_markers(markers, t, size, marks, leaves, n, r, c);
+    }
+}
+
+// Whether an individual has the markers under role r of two different classes that are disjoint.
+fn role_clash(
+    t: &[u64],
+    size: Size,
+    marks: &[u64],
+    leaves: &[u32],
+    n: usize,
+    disjoint: &[u64],
+    r: usize,
+) -> bool
+    requires { ⌜ Table size (now t) ⌝ }
+    requires { ⌜ (n ≤ length (now leaves)) × (n ≤ 4096) × (size .classes * 64 ≤ length (now marks)) ⌝ }
+    requires { ⌜ (size .classes * 8 ≤ length (now disjoint)) ⌝ }
+    ensures { λ x. ⌜ x ≡ rowsClash (size .individuals) (size .classes) (now (disjoint .entry)) false (markerRow size (now (t .entry)) (now (marks .entry)) (now (leaves .entry)) n r (size .classes)) ⌝ }
+{
+    let mut markers = [0u64; 2048];
+    role_markers(&mut markers, t, size, marks, leaves, n, r);
+    rows_clash(&markers, 0, size, disjoint, false)
+}
+
+// Whether role r is functional as named, and its markers clash.
+fn named_clash(
+    t: &[u64],
+    size: Size,
+    marks: &[u64],
+    leaves: &[u32],
+    n: usize,
+    disjoint: &[u64],
+    functional: &[u64],
+    r: usize,
+) -> bool
+    requires { ⌜ Table size (now t) ⌝ }
+    requires { ⌜ (n ≤ length (now leaves)) × (n ≤ 4096) × (size .classes * 64 ≤ length (now marks)) ⌝ }
+    requires { ⌜ (size .classes * 8 ≤ length (now disjoint)) ⌝ }
+    requires { ⌜ (8 ≤ length (now functional)) ⌝ }
+    requires { ⌜ 2 * r + 2 < size .fields ⌝ }
+    ensures { λ x. ⌜ x ≡ (has (now (functional .entry)) 0 (2 * r) && rowsClash (size .individuals) (size .classes) (now (disjoint .entry)) false (markerRow size (now (t .entry)) (now (marks .entry)) (now (leaves .entry)) n r (size .classes))) ⌝ }
+{
+    if member(functional, 0, 2 * r) {
+        return role_clash(t, size, marks, leaves, n, disjoint, r);
+    }
+    false
+}
+
+// Whether the markers of a role that is functional as named clash.
+fn markers_clash(
+    t: &[u64],
+    size: Size,
+    marks: &[u64],
+    leaves: &[u32],
+    n: usize,
+    disjoint: &[u64],
+    functional: &[u64],
+) -> bool
+    requires { ⌜ Table size (now t) ⌝ }
+    requires { ⌜ (n ≤ length (now leaves)) × (n ≤ 4096) × (size .classes * 64 ≤ length (now marks)) ⌝ }
+    requires { ⌜ (size .classes * 8 ≤ length (now disjoint)) ⌝ }
+    requires { ⌜ (8 ≤ length (now functional)) ⌝ }
+    ensures { λ x. ⌜ x ≡ any (size .fields / 2 - 1) (λ r. has (now (functional .entry)) 0 (2 * r) && rowsClash (size .individuals) (size .classes) (now (disjoint .entry)) false (markerRow size (now (t .entry)) (now (marks .entry)) (now (leaves .entry)) n r (size .classes))) ⌝ }
+{
+    let m = size.fields / 2 - 1;
+    for r in 0..m {
+        if named_clash(t, size, marks, leaves, n, disjoint, functional, r) {
+            return true;
+        }
+    }
+    false
+}
+
+// The clash of a table: of the classes, or of markers.
+pub fn clash(
+    t: &[u64],
+    size: Size,
+    marks: &[u64],
+    leaves: &[u32],
+    n: usize,
+    disjoint: &[u64],
+    functional: &[u64],
+) -> bool
+    requires { ⌜ Table size (now t) ⌝ }
+    requires { ⌜ (n ≤ length (now leaves)) × (n ≤ 4096) × (size .classes * 64 ≤ length (now marks)) ⌝ }
+    requires { ⌜ (size .classes * 8 ≤ length (now disjoint)) ⌝ }
+    requires { ⌜ (8 ≤ length (now functional)) ⌝ }
+    ensures { λ x. ⌜ x ≡ clashIn size (now (t .entry)) (now (marks .entry)) (now (leaves .entry)) n (now (disjoint .entry)) (now (functional .entry)) ⌝ }
+{
+    if rows_clash(t, rows_of(size, class_field(size)), size, disjoint, true) {
+        return true;
+    }
+    markers_clash(t, size, marks, leaves, n, disjoint, functional)
+}

@@ -1,0 +1,67 @@
+/* The conclusions of a book: told facts and rules run to the smallest sets.
+ *
+ * Link with libsaturation.a (`rt staticlib saturation`). The functions keep nothing between calls, allocate
+ * nothing and may be called from several threads at once; a call takes up to 5 MB of stack for a book of many
+ * roles and individuals. Each is proved to meet its contract (crates/saturation/src/exports.rt) for whatever bytes, numbers and
+ * lists it is given.
+ */
+#ifndef ZAMOLUVEL_SATURATION_H
+#define ZAMOLUVEL_SATURATION_H
+
+#include <stddef.h>
+#include <stdint.h>
+
+#ifdef __cplusplus
+extern "C" {
+#endif
+
+/* How a run ends. */
+#define ZAMOLUVEL_FINISHED 0u
+#define ZAMOLUVEL_CLASH 1u
+#define ZAMOLUVEL_SPENT 2u
+#define ZAMOLUVEL_REFUSED 100u /* plus the number of the refusal, 1 to 11 */
+
+/* Which list zamoluvel_named_part is asked for. */
+#define ZAMOLUVEL_EDGES 0u
+#define ZAMOLUVEL_PAIRS 1u
+
+/* Runs a book.
+ *
+ *   book, book_len    the bytes of the book, any at all; they are read only
+ *   budget            how many facts, types and edges together, may be kept: at most 1,000,000
+ *   types, types_len  the type list, at least 2 * budget entries: (individual, class) for each type
+ *   edges, edges_len  the edge list, at least 3 * budget entries: (role, first, second) for each edge
+ *   pairs, pairs_len  the pair list: (lower, higher) for each same pair
+ *   type_count, edge_count, pair_count
+ *                     each receives a count; 0 where the end has none. They must not be null.
+ *
+ * Lengths are in entries. The three lists, the book and the three counts must not overlap; a list of no entries
+ * may be any pointer that is not null.
+ *
+ * Returns
+ *   ZAMOLUVEL_FINISHED     each list has its rows in ascending order from the first entry on, and 0 after them;
+ *                          the three counts are the numbers of rows
+ *   ZAMOLUVEL_CLASH        no world fits the book; type and edge counts; every entry of every list is 0
+ *   ZAMOLUVEL_SPENT        there are more facts than the budget; every entry of every list is 0
+ *   ZAMOLUVEL_REFUSED + n  refused by number: 1 the budget, 2 the edge list, 3 the type list, 4 to 10 the book,
+ *                          each of these with the lists as they were; 11 the pair list is too short, and every
+ *                          entry of every list is 0
+ */
+uint32_t zamoluvel_saturate(const uint8_t *book, size_t book_len, uint64_t budget, uint32_t *types,
+                            size_t types_len, uint32_t *edges, size_t edges_len, uint32_t *pairs,
+                            size_t pairs_len, uint32_t *type_count, uint32_t *edge_count, uint32_t *pair_count);
+
+/* The part of a list that the facts of a run fill: so many entries of it, from the first on.
+ *
+ *   end, edge_count, pair_count  what zamoluvel_saturate returned and wrote
+ *   named                        ZAMOLUVEL_EDGES or ZAMOLUVEL_PAIRS
+ *
+ * Returns 3 * edge_count or 2 * pair_count after ZAMOLUVEL_FINISHED, and 0 at any other end or for another list.
+ */
+size_t zamoluvel_named_part(uint32_t end, uint32_t edge_count, uint32_t pair_count, uint32_t named);
+
+#ifdef __cplusplus
+}
+#endif
+
+#endif
