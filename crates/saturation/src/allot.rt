@@ -4,12 +4,12 @@ ghost use mathlib.Core.Bool.{true};
 ghost use Prim.Native.Nat.{_+_, _-_, _*_, _≤_, _<_};
 ghost use lib.ListN.{length};
 ghost use Rattle.book.specs.Reader.{rest};
-ghost use Rattle.rows.specs.Table.{base};
+ghost use Rattle.rows.specs.Table.{base, Sized};
 ghost use Rattle.rules.specs.Ends.{outcome};
 ghost use Rattle.tables.specs.Open.{bookOf, sizeOf, Open};
 ghost use Rattle.tables.specs.Tables.{Blank};
 ghost use Rattle.verdict.specs.Conclude.{came};
-ghost use Rattle.saturation.specs.Run.{Small};
+ghost use Rattle.saturation.specs.Run.{Small, Enough};
 use super::run::run;
 use book::header::Counts;
 use tables::size::size_of;
@@ -235,28 +235,29 @@ fn rows_of_any(
     )
 }
 
-fn by_counts(
-    book: &[u8],
-    from: usize,
-    offsets: &[usize],
-    counts: Counts,
-    budget: u32,
-    types: &mut [u32],
-    edges: &mut [u32],
-    pairs: &mut [u32],
-) -> End
-    requires { ⌜ Open (now book) counts (now offsets) ⌝ }
-    requires { ⌜ rest (now book) counts from ≡ bookOf (now book) .statements ⌝ }
-    requires { ⌜ (budget ≤ 1000000) × (3 * budget ≤ length (now edges)) × (2 * budget ≤ length (now types)) ⌝ }
-    requires { ⌜ base (sizeOf counts) (sizeOf counts .fields - 1) + counts .classes ≤ 64 ⌝ }
-    ensures { λ r. ⌜ came r (now (types .exit)) (now (edges .exit)) (now (pairs .exit)) ≡ outcome (now (book .entry)) budget (now (types .entry)) (now (edges .entry)) (now (pairs .entry)) ⌝ }
+// Which size of tables a book asks for: 0 small, 1 to 3 by the rows of links.
+fn wanted(counts: Counts) -> u32
+    requires { ⌜ Sized (sizeOf counts) ⌝ }
+    ensures { λ r. ⌜ Enough counts r ⌝ }
 {
-    if is_small(counts) {
-        return small(book, from, offsets, counts, budget, types, edges, pairs);
+    let rows = table_rows(size_of(counts));
+    if rows <= 64 {
+        if is_small(counts) {
+            return 0;
+        }
+        return 1;
     }
-    rows_in_cache(book, from, offsets, counts, budget, types, edges, pairs)
+    if rows <= 2048 {
+        return 1;
+    }
+    if rows <= 16384 {
+        return 2;
+    }
+    3
 }
 
+// The sizes are passed from the smallest on, each by a call of this function: one that calls itself is not merged with what it calls, so each size keeps a
+// frame of its own, and a small book does not walk over the largest.
 pub fn allot(
     book: &[u8],
     from: usize,
@@ -266,20 +267,34 @@ pub fn allot(
     types: &mut [u32],
     edges: &mut [u32],
     pairs: &mut [u32],
+    step: u32,
 ) -> End
     requires { ⌜ Open (now book) counts (now offsets) ⌝ }
     requires { ⌜ rest (now book) counts from ≡ bookOf (now book) .statements ⌝ }
     requires { ⌜ (budget ≤ 1000000) × (3 * budget ≤ length (now edges)) × (2 * budget ≤ length (now types)) ⌝ }
     ensures { λ r. ⌜ came r (now (types .exit)) (now (edges .exit)) (now (pairs .exit)) ≡ outcome (now (book .entry)) budget (now (types .entry)) (now (edges .entry)) (now (pairs .entry)) ⌝ }
 {
-    let rows = table_rows(size_of(counts));
-    if rows <= 64 {
-        return by_counts(book, from, offsets, counts, budget, types, edges, pairs);
+    let size = wanted(counts);
+    if step < size {
+        return allot(
+            book,
+            from,
+            offsets,
+            counts,
+            budget,
+            types,
+            edges,
+            pairs,
+            step + 1,
+        );
     }
-    if rows <= 2048 {
+    if size == 0 {
+        return small(book, from, offsets, counts, budget, types, edges, pairs);
+    }
+    if size == 1 {
         return rows_in_cache(book, from, offsets, counts, budget, types, edges, pairs);
     }
-    if rows <= 16384 {
+    if size == 2 {
         return rows_of_some(book, from, offsets, counts, budget, types, edges, pairs);
     }
     rows_of_any(book, from, offsets, counts, budget, types, edges, pairs)

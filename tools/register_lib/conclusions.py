@@ -1,0 +1,110 @@
+"""What the program concludes from a book: its output read back, and written with the names of the register."""
+import re
+import subprocess
+
+import book_format as f
+
+from .syntax import Fault
+from .text import counted, document
+
+FINISHED, CLASH, SPENT, REFUSED = 0, 3, 4, 5  # exit statuses
+NUMBER = '[0-9]{1,9}'
+CAUSES = {
+    4: 'the book ends before a record is complete', 5: 'header bit 5 to 7, or a written count 0', 6: 'a count above its limit',
+    7: 'an unknown kind', 8: 'a map that its kind does not have', 9: 'a number out of range', 10: 'bytes behind the last statement',
+    11: "more same pairs than the program's list holds (2,000 for saturate)",
+}
+
+
+def run(program, data):
+    """What the program prints for a book."""
+    try:
+        done = subprocess.run([program], input=data, stdout=subprocess.PIPE, check=False)
+    except OSError as error:
+        raise Fault(f'the program cannot be run: {error.strerror}') from None
+    if done.returncode < 0:
+        raise Fault(f'the program was ended by signal {-done.returncode}')
+    return done.stdout.decode('ascii', 'replace')
+
+
+def read(output, counts):
+    """The end's word, its numbers and the listed facts, such as ('t', individual, class); a fault for any other text."""
+    first, *rest = output.split('\n')
+    ends = 'finished( N){3}|clash( N){2}|spent|refused N|long'.replace('N', NUMBER)
+    if not re.fullmatch(ends, first) or rest[-1:] != ['']:
+        raise Fault(f'the program printed none of its ends: {first[:60]!r}')
+    word, *numbers = first.split()
+    numbers, facts = [int(n) for n in numbers], [tuple(line.split(' ')) for line in rest[:-1]]
+    classes, roles, individuals = counts[:3]
+    limits = {'t': (individuals, classes), 'e': (roles, individuals, individuals), 's': (individuals, individuals)}
+    for fact in facts:
+        values, limit = fact[1:], limits.get(fact[0], ())
+        if len(values) != len(limit) or not all(re.fullmatch(NUMBER, x) and int(x) < top for x, top in zip(values, limit)):
+            raise Fault(f'the program listed what the book does not have: {" ".join(fact)[:60]!r}')
+    listed = [sum(fact[0] == letter for fact in facts) for letter in 'tes']
+    if listed != (numbers if word == 'finished' else [0, 0, 0]):
+        raise Fault(f'the program listed other facts than it counted: {first!r}')
+    return word, numbers, [(fact[0], *map(int, fact[1:])) for fact in facts]
+
+
+def edge(role, a, b):
+    """The edge, in the named direction, that says that the role field leads a to b."""
+    return ('e', role // 2, b, a) if role % 2 else ('e', role // 2, a, b)
+
+
+def told(book):
+    """What a book says outright: assertions (rule 1), and SameIndividual as pairs, lower number first."""
+    out = set()
+    for kind, _, v in book.statements:
+        if kind == f.ROLE_ASSERTION:
+            out.add(edge(*v))
+        elif kind == f.SAME:
+            out.add(('s', *sorted(v)))
+        elif kind == f.CLASS_ASSERTION:
+            seen, waiting = set(), [v[0]]
+            while waiting:
+                c = waiting.pop()
+                kind_, fields = book.concepts[c]
+                if kind_ == f.AND and c not in seen:
+                    waiting += fields
+                elif kind_ == f.ATOMIC:
+                    out.add(('t', v[1], fields[0]))
+                elif kind_ == f.SOME and book.concepts[fields[1]][0] == f.NOMINAL:
+                    out.add(edge(fields[0], v[1], book.concepts[fields[1]][1][0]))
+                seen.add(c)
+    return out
+
+
+def tally(types, edges, pairs):
+    return ', '.join([counted(types, 'type'), counted(edges, 'edge'), counted(pairs, 'same pair')])
+
+
+def section(title, facts, names):
+    """The lines of some facts under their title."""
+    yield f'# {title}: ' + tally(*(sum(fact[0] == letter for fact in facts) for letter in 'tes'))
+    for fact in facts:
+        if fact[0] == 't':
+            yield f'ClassAssertion({names.of(f.CLASSES, fact[2])} {names.of(f.INDIVIDUALS, fact[1])})'
+        elif fact[0] == 'e':
+            ends = ' '.join(names.of(f.INDIVIDUALS, i) for i in fact[2:])
+            yield f'ObjectPropertyAssertion({names.of(f.ROLES, fact[1])} {ends})'
+        else:
+            yield f'SameIndividual({" ".join(names.of(f.INDIVIDUALS, i) for i in fact[1:])})'
+
+
+def write(output, book, size, names):
+    """(exit status, text) of a run: a document after finished, told and derived apart, and a sentence after any other end."""
+    word, numbers, facts = read(output, book.counts)
+    if word == 'finished':
+        outright = told(book)
+        body = [*section('told', [x for x in facts if x in outright], names),
+                *section('derived', [x for x in facts if x not in outright], names)]
+        return FINISHED, document(names, ['finished: ' + tally(*numbers)], body)
+    if word == 'clash':
+        sizes = f'{counted(numbers[0], "type")} and {counted(numbers[1], "edge")}'
+        return CLASH, f'clash: no world fits this register; its smallest sets have {sizes}.\n'
+    if word == 'spent':
+        return SPENT, "spent: the conclusions have more types and edges than the program's budget (4,000 for saturate).\n"
+    if word == 'long':
+        return REFUSED, f'long: the book has {size:,} bytes, more than the program reads (65,536 for saturate).\n'
+    return REFUSED, f'refused {numbers[0]}: {CAUSES.get(numbers[0], "a number that the program does not document")}.\n'
