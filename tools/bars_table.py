@@ -2,6 +2,9 @@
 leave open. Each row has a book, a budget, the lengths of the three lists, and by hand what a run must come
 to: its end as the program prints it, and the types, edges and pairs that it lists.
 
+`bars` has the rows that are proved and run, `runs` those that are only run: input that is no book, and books
+that fill the program's lists.
+
 In a comment p, q are roles 0 and 1, A to D classes 0 to 3.
 """
 import book_format as f
@@ -227,4 +230,75 @@ def bars():
     b.tell(f.SAME, 0, 1).tell(f.CLASS_ASSERTION, told, 0).tell(f.ROLE_ASSERTION, P, 0, 2)
     row('a plain book', b, 'finished 8 4 0', types=[(0, 0), (0, 1), (0, 2), (1, 0), (1, 1), (1, 2), (2, 1), (2, 2)],
         edges=[(0, 0, 2), (0, 1, 2), (1, 0, 2), (1, 1, 2)])
+    return out
+
+
+def runs():
+    out = []
+    worked = next(bar.data for bar in bars() if bar.label == 'the worked book of seven individuals')
+
+    def row(label, book, end, budget=4000, room=4000, **rest):
+        out.append(Bar(label, book, end, budget=budget, room=room, **rest))
+
+    # input that is no book, with the program's budget and lists
+    row('an empty file', [], 'refused 4')
+    row('a text file: S has bit 6', b'SubClassOf(:Plate :Steel)\n', 'refused 5')
+    row('a text file that begins with an empty line: roles, and there are too many', b'\nPrefix(:=<http://plates/>)\n', 'refused 6')
+    row('a text file that begins with a byte order mark', b'\xef\xbb\xbfOntology()\n', 'refused 5')
+    row('an XML file', b'<?xml version="1.0"?>\n', 'refused 5')
+    row('a book as hexadecimal digits', worked.hex().encode(), 'refused 5')
+    row('a compressed file: five counts, and too many classes', b'\x1f\x8b\x08\x00\x00\x00\x00\x00\x00\x03', 'refused 6')
+    row('65,536 zeros: a book of one byte, and more behind it', bytes(65536), 'refused 10')
+    for n in (1, 2, 10, 11, 20, 30, 60, len(worked) - 1):
+        row(f'the worked book, cut off behind {n} bytes', worked[:n], 'refused 4')
+    row('the worked book with a line feed behind it', worked + b'\n', 'refused 10')
+    row('the worked book twice', worked + worked, 'refused 10')
+    row('the worked book with its bytes read as text and written as UTF-8', worked.decode('latin-1').encode(), 'refused 8')
+
+    # budgets
+    row('the largest budget: refused 1', [0], 'refused 1', budget=2 ** 64 - 1, type_room=1, edge_room=1, room=1)
+    row('a budget of 1,000,000 on short lists: refused 2', [0], 'refused 2', budget=1000000, type_room=1, edge_room=1, room=1)
+    row('no budget and no facts', [0], 'finished 0 0 0', budget=0, room=1)
+    b = Register(1, 0, 1)
+    a, = b.classes(1)
+    row('no budget and a fact: spent', b.tell(f.CLASS_ASSERTION, a, 0), 'spent', budget=0, room=1)
+
+    # books that fill a list of the program, and one fact or pair more
+    def typed(more):
+        b = Register(8, 0, 500 + more)
+        all_eight = b.both(*b.classes(8))
+        for i in range(500):
+            b.tell(f.CLASS_ASSERTION, all_eight, i)
+        for i in range(500, 500 + more):
+            b.tell(f.CLASS_ASSERTION, 7, i)
+        return b
+    row('500 individuals of 8 classes: 4,000 types', typed(0), 'finished 4000 0 0', types=[(i, c) for i in range(500) for c in range(8)])
+    row('one type more: spent', typed(1), 'spent')
+
+    ends = [(a, c) for a in range(412, 512) for c in range(472, 512)]
+
+    def joined(more):
+        b = Register(0, 64, 512)
+        for a, c in ends:
+            b.tell(f.ROLE_ASSERTION, 127, c, a)
+        for a in range(more):
+            b.tell(f.ROLE_ASSERTION, 126, a, a)
+        return b
+    row('the inverse of role 63 from 40 individuals to 100: 4,000 edges', joined(0), 'finished 0 4000 0', edges=[(63, a, c) for a, c in ends])
+    row('one edge more: spent', joined(1), 'spent')
+
+    # a functional role with 63, 10, 2 and 2 fillers of its subjects has 1,953 + 45 + 1 + 1 same pairs
+    def paired(sizes):
+        first, groups = len(sizes), []
+        for size in sizes:
+            groups.append(range(first, first + size))
+            first += size
+        b = Register(0, 1, first).tell(f.FUNCTIONAL, P)
+        for subject, fillers in enumerate(groups):
+            for x in fillers:
+                b.tell(f.ROLE_ASSERTION, P, subject, x)
+        return b, [(0, subject, x) for subject, fillers in enumerate(groups) for x in fillers], [(x, y) for fillers in groups for x in fillers for y in fillers if x < y]
+    b, edges, pairs = paired((63, 10, 2, 2))
+    row('2,000 same pairs', b, 'finished 0 77 2000', edges=edges, pairs=pairs)
+    row('one pair more: refused 11', paired((63, 10, 2, 2, 2))[0], 'refused 11')
     return out

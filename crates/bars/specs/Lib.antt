@@ -1,0 +1,2 @@
+-- What the test program sees in the lists.
+pub mod Rest

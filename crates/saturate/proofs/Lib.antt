@@ -1,0 +1,2 @@
+-- Why the program's answer is the defined one.
+pub mod Answers

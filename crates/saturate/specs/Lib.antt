@@ -1,0 +1,3 @@
+-- What the program reads and prints.
+pub mod Input
+pub mod Output

@@ -1,0 +1,2 @@
+-- Why the texts are the defined ones.
+pub mod Puts
