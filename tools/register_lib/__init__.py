@@ -1,1 +1,2 @@
-"""The parts of tools/register: syntax and words of OWL 2 functional-style syntax, names, packing, text, conclusions."""
+"""The parts of tools/register: tokens, trees and words of OWL 2 functional-style syntax, other syntaxes, names, packing, text,
+the library, conclusions."""

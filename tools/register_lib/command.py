@@ -6,61 +6,51 @@ import sys
 
 import book_format as f
 
-from . import conclusions, names, words
-from .packer import Packer
-from .syntax import Fault, place
+from . import conclusions, library, names, words
+from .packer import MOST_BYTES, Packer
+from .source import AT_FAULT, DONE, NOT_RUN, Source, Stop, decoded, read_bytes
 from .text import Writer, counted, summary
+from .tokens import Fault
 
 ROOT = pathlib.Path(__file__).resolve().parent.parent.parent
 PROGRAM = ROOT / 'target' / 'bin' / 'saturate'
-DONE, AT_FAULT, NOT_RUN = 0, 1, 2
+SUFFIX = r'\.(ofn|owl|ttl|nt|rdf|xml|owx|omn)$'  # of a register's file; its book has .book in place of it
 
 ABOUT = 'Books in a form that people read and write: OWL 2 functional-style syntax.'
+SYNTAXES = '''FILE is in functional-style syntax. One in Turtle, RDF/XML, OWL/XML or Manchester syntax, as its first
+words tell, is converted through the OWL API, where Java and that are at hand (on Debian: apt install
+default-jdk-headless libowlapi-java). Imports are not fetched; they are counted as left out.
+'''
 STATUSES = '''Exit status:
   0  done; for conclude: finished
   1  the file is at fault: syntax, a limit of the book, with --strict an axiom that a book cannot hold;
      for show: a refused book or names that do not fit it
-  2  wrong usage, a file that cannot be read or written, a program that cannot be run or prints something else
+  2  wrong usage, a file that cannot be read or written, a program that cannot be run or prints something else,
+     a library, Java or an OWL API that is not there
   3  conclude: clash, no world fits the register
-  4  conclude: spent, more conclusions than the program's budget
+  4  conclude: spent, more conclusions than the budget
   5  conclude: refused, or a book that is too long for the program
 '''
-PACKED = '''Into the book go:
+PACKED = SYNTAXES + '''
+Into the book go:
   SubClassOf, EquivalentClasses, DisjointClasses, SameIndividual, ClassAssertion, ObjectPropertyAssertion,
   SubObjectPropertyOf (of a role, or of a chain of two or three), InverseObjectProperties,
   Transitive-, Symmetric-, Functional- and InverseFunctionalObjectProperty, ObjectPropertyDomain and -Range,
 over owl:Thing, owl:Nothing, classes, and ObjectIntersectionOf, ObjectUnionOf, ObjectComplementOf, ObjectOneOf,
 ObjectSomeValuesFrom, ObjectAllValuesFrom, ObjectHasValue, ObjectHasSelf, ObjectMin-, -Max- and -ExactCardinality,
-and over roles and ObjectInverseOf. Longer lists become pairs: neighbours for SameIndividual, all pairs elsewhere.
-Everything else is left out and counted on standard error; annotations are passed over.
+and over roles and ObjectInverseOf. Longer lists become pairs: neighbours for SameIndividual, all pairs elsewhere;
+a repeated member counts once. Everything else is left out and counted on standard error; annotations are passed over.
 
 A book has at most 256 classes, 64 roles, 512 individuals, 4,096 concepts and 4,096 statements, and for the
 program 65,536 bytes. A declared name counts, also where no axiom uses it.
 '''
-
-
-class Stop(Exception):
-    """A message for standard error, and the exit status."""
-
-    def __init__(self, status, *lines):
-        super().__init__(*lines)
-        self.status, self.lines = status, lines
-
-
-def read_bytes(path):
-    try:
-        return pathlib.Path(path).read_bytes()
-    except OSError as error:
-        raise Stop(NOT_RUN, f'{path}: cannot be read: {error.strerror}') from None
-
-
-def read_text(path):
-    data = read_bytes(path)
-    try:
-        return data.decode('utf-8-sig').replace('\r\n', '\n').replace('\r', '\n')
-    except UnicodeDecodeError as error:
-        line, column = place(data[:error.start].decode('utf-8-sig'), len(data[:error.start].decode('utf-8-sig')))
-        raise Stop(AT_FAULT, f'{path}: line {line}, column {column}: not UTF-8 text') from None
+SHOWN = '''A book may have an ObjectIntersectionOf or ObjectUnionOf of one part or none. It is shown as it stands and
+packed again as it is shown, but it is not legal OWL, which wants two parts, and OWL editors refuse it.
+'''
+CONCLUDED = SYNTAXES + f'''
+The program target/bin/saturate is run, which keeps at most 4,000 types and edges and lists 2,000 same pairs. With
+--budget the proved library is run instead, with lists of the size that is needed; `{library.BUILD}` builds it.
+'''
 
 
 def write_file(path, data):
@@ -70,38 +60,30 @@ def write_file(path, data):
         raise Stop(NOT_RUN, f'{path}: cannot be written: {error.strerror}') from None
 
 
-def said(path, text, fault):
-    """A fault as lines: the file, the place, what is wrong; then the place itself."""
-    if fault.at is None:
-        return [f'{path}: {fault.words}']
-    line, column = place(text, fault.at)
-    source = text.split('\n')[line - 1]
-    start = max(0, column - 60)
-    return [f'{path}: line {line}, column {column}: {fault.words}',
-            '    ' + source[start:start + 120].replace('\t', ' '), '    ' + ' ' * (column - 1 - start) + '^']
-
-
-def packed(path, strict):
+def packed(path, strict, most_bytes=MOST_BYTES):
     """A file as a Packer that a book can hold; what is left out is counted on standard error."""
-    text = read_text(path)
+    source = Source.of(path)
     try:
-        packer = Packer(text)
+        if strict and source.left_out:
+            raise Fault(f'a book cannot hold this, {source.left_out[0]}')
+        packer = Packer(source.text)
         packer.pack(strict)
     except Fault as fault:
-        raise Stop(AT_FAULT, *said(path, text, fault)) from None
-    over = packer.over()
+        raise Stop(AT_FAULT, *source.said(fault)) from None
+    over = packer.over(most_bytes)
     if over:
-        raise Stop(AT_FAULT, *(line for fault in over for line in said(path, text, fault)))
+        raise Stop(AT_FAULT, *(line for fault in over for line in source.said(fault)))
+    for sentence in source.left_out:
+        print(f'{path}: left out, {sentence}', file=sys.stderr)
     for kind, (count, at) in packer.left_out.items():
-        line, column = place(text, at)
-        print(f'{path}: left out, since a book cannot hold it: {count:,} {words.left_out(kind)}, first at line {line}, '
-              f'column {column}', file=sys.stderr)
+        print(f'{path}: left out, since a book cannot hold it: {count:,} {words.left_out(kind)}, {source.first(at)}',
+              file=sys.stderr)
     return packer
 
 
 def pack(args):
     packer = packed(args.file, args.strict)
-    stem, data = args.out or re.sub(r'\.ofn$', '', args.file), packer.data()
+    stem, data = args.out or re.sub(SUFFIX, '', args.file), packer.data()
     write_file(pathlib.Path(stem + '.book'), data)
     write_file(pathlib.Path(stem + '.names'), names.write(packer.names()).encode())
     print(f'{stem}.book: {summary(f.read(data).counts)}, {counted(len(data), "byte")}; names in {stem}.names')
@@ -114,11 +96,13 @@ def show(args):
     except f.Refused as fault:
         cause = conclusions.CAUSES[fault.number]
         raise Stop(AT_FAULT, f'{args.file}: refused {fault.number} at byte {fault.at:,}: {cause}') from None
-    given, text = names.unnamed(book.counts), read_text(args.names) if args.names else None
+    given, list_ = names.unnamed(book.counts), None
     try:
-        given = names.read(text, book.counts) if args.names else given
+        if args.names:
+            list_ = Source(args.names, decoded(args.names, read_bytes(args.names)))
+            given = names.read(list_.text, book.counts)
     except Fault as fault:
-        raise Stop(AT_FAULT, *said(args.names, text, fault)) from None
+        raise Stop(AT_FAULT, *list_.said(fault)) from None
     try:
         print(Writer(book, given).show(), end='')
     except Fault as fault:
@@ -127,22 +111,43 @@ def show(args):
 
 
 def conclude(args):
-    packer = packed(args.file, args.strict)
-    data, program = packer.data(), pathlib.Path(args.program or PROGRAM)
-    if not args.program and not program.exists():
-        raise Stop(NOT_RUN, 'the program target/bin/saturate is not built; build it, or name one with --program '
-                   '(tools/saturate-reference is a slow stand-in)')
-    try:
-        # a path without a directory is one in this directory, not one to search for
-        status, text = conclusions.write(conclusions.run(program.absolute(), data), f.read(data), len(data), packer.names())
-    except Fault as fault:
-        raise Stop(NOT_RUN, f'{program}: {fault.words}') from None
+    packer = packed(args.file, args.strict, MOST_BYTES if args.budget is None else None)
+    data = packer.data()
+    book = f.read(data)
+    run = run_program(args.program, data, book) if args.budget is None else run_library(data, book, args.budget)
+    status, text = conclusions.write(run, book, len(data), packer.names(), args.budget)
     print(text, end='')
     return status
 
 
+def run_program(path, data, book):
+    program = pathlib.Path(path or PROGRAM)
+    if not path and not program.exists():
+        raise Stop(NOT_RUN, 'the program target/bin/saturate is not built; build it, or name one with --program '
+                   '(tools/saturate-reference is a slow stand-in)')
+    try:
+        # a path without a directory is one in this directory, not one to search for
+        return conclusions.read(conclusions.run(program.absolute(), data), book.counts)
+    except Fault as fault:
+        raise Stop(NOT_RUN, f'{program}: {fault.words}') from None
+
+
+def run_library(data, book, budget):
+    try:
+        return conclusions.run_library(data, book.counts, budget)
+    except library.NotBuilt as missing:
+        raise Stop(NOT_RUN, str(missing)) from None
+
+
+def budget(text):
+    """A budget on the command line."""
+    if not re.fullmatch('[0-9]{1,9}', text) or int(text) > library.MOST_BUDGET:
+        raise argparse.ArgumentTypeError(f'{text} is no number up to {library.MOST_BUDGET}')
+    return int(text)
+
+
 def arguments():
-    def command(name, run, what, about='', file='FILE.ofn', strict=True):
+    def command(name, run, what, about='', file='FILE', strict=True):
         made = commands.add_parser(name, help=what, description=f'{what}.\n\n{about}', epilog=STATUSES,
                                    formatter_class=argparse.RawDescriptionHelpFormatter)
         made.add_argument('file', metavar=file)
@@ -155,9 +160,11 @@ def arguments():
     commands = parser.add_subparsers(dest='command', metavar='COMMAND', required=True)
     made = command('pack', pack, 'writes FILE.book, and FILE.names with the name of each number', PACKED)
     made.add_argument('--out', metavar='STEM', help='write STEM.book and STEM.names instead')
-    made = command('show', show, 'prints a book in functional-style syntax', file='FILE.book', strict=False)
+    made = command('show', show, 'prints a book in functional-style syntax', SHOWN, file='FILE.book', strict=False)
     made.add_argument('--names', metavar='FILE.names', help='names for the numbers; book:C0, book:R0, book:i0 and so on else')
-    made = command('conclude', conclude, 'packs FILE, runs the program and prints what it concludes, told and derived apart')
+    made = command('conclude', conclude, 'packs FILE, runs the book and prints what it concludes, told and derived apart',
+                   CONCLUDED).add_mutually_exclusive_group()
+    made.add_argument('--budget', metavar='N', type=budget, help='run the library, with a budget of N facts, up to 1000000')
     made.add_argument('--program', metavar='PATH', help='the program to run on the book (target/bin/saturate of this repository else)')
     return parser
 

@@ -1,11 +1,14 @@
-"""What the program concludes from a book: its output read back, and written with the names of the register."""
+"""What a book concludes: a run of the program, its output read back, or of the library; and either written with the names
+of the register."""
 import re
 import subprocess
+from collections import namedtuple
 
 import book_format as f
 
-from .syntax import Fault
+from . import library
 from .text import counted, document
+from .tokens import Fault
 
 FINISHED, CLASH, SPENT, REFUSED = 0, 3, 4, 5  # exit statuses
 NUMBER = '[0-9]{1,9}'
@@ -14,6 +17,9 @@ CAUSES = {
     7: 'an unknown kind', 8: 'a map that its kind does not have', 9: 'a number out of range', 10: 'bytes behind the last statement',
     11: "more same pairs than the program's list holds (2,000 for saturate)",
 }
+
+# the end's word, its numbers, and the listed facts, such as ('t', individual, class)
+Run = namedtuple('Run', 'word numbers facts')
 
 
 def run(program, data):
@@ -28,7 +34,7 @@ def run(program, data):
 
 
 def read(output, counts):
-    """The end's word, its numbers and the listed facts, such as ('t', individual, class); a fault for any other text."""
+    """The run that a program has printed; a fault for any other text."""
     first, *rest = output.split('\n')
     ends = 'finished( N){3}|clash( N){2}|spent|refused N|long'.replace('N', NUMBER)
     if not re.fullmatch(ends, first) or rest[-1:] != ['']:
@@ -44,7 +50,21 @@ def read(output, counts):
     listed = [sum(fact[0] == letter for fact in facts) for letter in 'tes']
     if listed != (numbers if word == 'finished' else [0, 0, 0]):
         raise Fault(f'the program listed other facts than it counted: {first!r}')
-    return word, numbers, [(fact[0], *map(int, fact[1:])) for fact in facts]
+    return Run(word, numbers, [(fact[0], *map(int, fact[1:])) for fact in facts])
+
+
+def run_library(data, counts, budget):
+    """The run of the library, with a pair list that has room for every pair of the book's individuals."""
+    individuals = counts[f.INDIVIDUALS]
+    got = library.saturate(data, budget, 2 * budget, 3 * budget, individuals * (individuals - 1))
+    numbers = [got.type_count, got.edge_count, got.pair_count]
+    if got.end != library.FINISHED:
+        word = {library.CLASH: 'clash', library.SPENT: 'spent'}.get(got.end, 'refused')
+        return Run(word, [got.end - library.REFUSED] if word == 'refused' else numbers[:2], [])
+    edge_part, pair_part = (library.named_part(*got[:1], *got[2:4], named) for named in (library.EDGES, library.PAIRS))
+    parts = [('t', 2, got.types[:2 * got.type_count]), ('e', 3, got.edges[:edge_part]), ('s', 2, got.pairs[:pair_part])]
+    return Run('finished', numbers, [(letter, *part[n:n + width]) for letter, width, part in parts
+                                     for n in range(0, len(part), width)])
 
 
 def edge(role, a, b):
@@ -92,9 +112,19 @@ def section(title, facts, names):
             yield f'SameIndividual({" ".join(names.of(f.INDIVIDUALS, i) for i in fact[1:])})'
 
 
-def write(output, book, size, names):
-    """(exit status, text) of a run: a document after finished, told and derived apart, and a sentence after any other end."""
-    word, numbers, facts = read(output, book.counts)
+def advice(counts, budget):
+    """How a run with a larger budget is had: with the bound of the book's counts, or the largest there is."""
+    classes, roles, individuals = counts[:3]
+    enough = min(individuals * classes + roles * individuals ** 2, library.MOST_BUDGET)
+    if budget >= enough:
+        return 'There is no larger budget.'
+    return f'With a larger one, by the proved library: tools/register conclude --budget {enough} FILE'
+
+
+def write(run, book, size, names, budget=None):
+    """(exit status, text) of a run of the program, or of the library with a budget: a document after finished, told and
+    derived apart, and a sentence after any other end."""
+    word, numbers, facts = run
     if word == 'finished':
         outright = told(book)
         body = [*section('told', [x for x in facts if x in outright], names),
@@ -104,7 +134,11 @@ def write(output, book, size, names):
         sizes = f'{counted(numbers[0], "type")} and {counted(numbers[1], "edge")}'
         return CLASH, f'clash: no world fits this register; its smallest sets have {sizes}.\n'
     if word == 'spent':
-        return SPENT, "spent: the conclusions have more types and edges than the program's budget (4,000 for saturate).\n"
+        which = "the program's budget (4,000 for saturate)" if budget is None else f'the budget of {budget:,}'
+        return SPENT, (f'spent: the conclusions have more types and edges than {which}.\n'
+                       f'{advice(book.counts, budget or 0)}\n')
     if word == 'long':
         return REFUSED, f'long: the book has {size:,} bytes, more than the program reads (65,536 for saturate).\n'
-    return REFUSED, f'refused {numbers[0]}: {CAUSES.get(numbers[0], "a number that the program does not document")}.\n'
+    cause = CAUSES.get(numbers[0], 'a number that the program does not document')
+    more = '\nWith room for all pairs, by the proved library: tools/register conclude --budget 4000 FILE' if numbers[0] == 11 else ''
+    return REFUSED, f'refused {numbers[0]}: {cause}.{more}\n'

@@ -4,7 +4,8 @@ import re
 
 import book_format as f
 
-from .syntax import OWL, SHORT, STANDARD_PREFIXES, TOKEN, Fault
+from .syntax import OWL, STANDARD_PREFIXES, unescaped
+from .tokens import PREFIX, SHORT, TOKEN, Fault
 
 KINDS = ('class', 'role', 'individual')  # in the order of the header's counts
 OWN = ('book:', 'urn:example:book#')  # names where none are given: book:C0, book:R0, book:i0
@@ -24,7 +25,7 @@ class Names:
         if iri not in self.known:
             self.known[iri] = iri if iri.startswith('_:') else f'<{iri}>'
             for prefix, front in self.by_length:
-                if iri.startswith(front) and SHORT.fullmatch(iri[len(front):]):
+                if iri.startswith(front) and re.fullmatch(SHORT, iri[len(front):]):
                     self.known[iri] = prefix + iri[len(front):]
                     self.used.add(prefix)
                     break
@@ -58,7 +59,7 @@ def read(text, counts):
     """The names in a file, for a book with these counts; a number without a line has the name of `unnamed`."""
     prefixes, names, given, at = {}, unnamed(counts), {}, 0
     for line in text.split('\n'):
-        prefix = re.fullmatch(r'Prefix\(([^\s=:]*:)=<([^\s<>]*)>\)', line)
+        prefix = re.fullmatch(rf'Prefix\(({PREFIX})=<([^\s<>]*)>\)', line)
         entry = re.fullmatch(r'(class|role|individual) ([0-9]{1,9}) (\S+)', line)
         if prefix:
             prefixes[prefix[1]] = prefix[2]
@@ -91,7 +92,7 @@ def full(written, prefixes, kind, at):
     elif form == 'anonymous' and KINDS[kind] == 'individual':
         iri = written
     elif form == 'short' and local and front + ':' in prefixes:
-        iri = prefixes[front + ':'] + local
+        iri = prefixes[front + ':'] + unescaped(local)
     else:
         raise Fault(f'{written} is no name for this kind, or its prefix is not declared above', at)
     if iri in (TOP, BOTTOM, *BUILT_IN_ROLES):

@@ -6,11 +6,13 @@ import book_format as f
 
 from . import words
 from .names import BOTTOM, BUILT_IN_ROLES, TOP, Names
-from .syntax import Fault, Name, Node, Number, Parser
+from .syntax import OWL, Name, Node, Number, Parser
+from .tokens import Fault
 
 MOST_BYTES = 65536  # of a book that the program reads
 MOST_PARTS = 255
 MOST_BOUND = 2 ** 32 - 1
+UNREAD = 'http://org.semanticweb.owlapi/error#'  # names that OWL editors give to what they could not read
 WHERE = ('classes', 'roles', 'individuals', 'concepts', 'statements')
 
 
@@ -66,15 +68,17 @@ class Packer:
         name = entity.args[0]
         if name.iri.startswith('_:'):
             raise Fault(f'{name.iri} is anonymous and cannot be declared', name.at)
-        if name.iri not in (TOP, BOTTOM, *BUILT_IN_ROLES):
+        if not name.iri.startswith((OWL, UNREAD)):
             self.number(tables[entity.word], name.iri, name.at)
 
     def state(self, node, args):
-        """The statements of an axiom: one, or pairs of a list (neighbours for SameIndividual, all pairs elsewhere)."""
+        """The statements of an axiom: one, or pairs of a list (neighbours for SameIndividual, all pairs elsewhere). A member
+        that is repeated counts once; one that is alone is paired with itself."""
         kind, form = words.STATEMENTS[node.word]
         words.check_form(node, form, args)
         if form[-1] == '2':
-            members = [self.fields(form[0], arg)[0] for arg in args]
+            members = list(dict.fromkeys(self.fields(form[0], arg)[0] for arg in args))
+            members *= 2 if len(members) == 1 else 1
             n = len(members)
             if kind == f.SAME:
                 self.tell(((kind, *pair) for pair in zip(members, members[1:])), n - 1, node.at)
@@ -166,6 +170,8 @@ class Packer:
             raise Fault('expected a class expression', name.at)
         if name.iri in (TOP, BOTTOM):
             return self.kept(name, f.TOP if name.iri == TOP else f.BOT)
+        if name.iri.startswith(UNREAD):
+            raise LeftOut('a class expression that an OWL editor could not read')
         return self.kept(name, f.ATOMIC, self.number(self.classes, name.iri, name.at))
 
     def kept(self, tree, *record):
@@ -192,7 +198,7 @@ class Packer:
         return Names(self.prefixes, list(self.classes), list(self.roles),
                      sorted(self.individuals, key=lambda name: name.startswith('_:')))
 
-    def over(self):
+    def over(self, most_bytes=MOST_BYTES):
         """A fault for each limit of a book that is exceeded."""
         names, faults = self.names(), []
         for table, what, limit in zip(self.tables, WHERE, f.LIMITS):
@@ -204,8 +210,9 @@ class Packer:
         if self.told > limit:
             faults.append(Fault(f'{self.told:,} statements, and a book has at most {limit:,}; this is the first too many '
                                 '(longer lists become pairs)', self.first_over))
-        if not faults and len(self.data()) > MOST_BYTES:
-            faults.append(Fault(f'{len(self.data()):,} bytes, and a book for the program has at most {MOST_BYTES:,}'))
+        if not faults and most_bytes and len(self.data()) > most_bytes:
+            faults.append(Fault(f'{len(self.data()):,} bytes, and a book for the program has at most {most_bytes:,}; '
+                                'conclude --budget N takes longer ones'))
         return faults
 
     def data(self):

@@ -3,38 +3,16 @@ where it begins. Names are full IRIs here; an anonymous individual is its `_:x`.
 import re
 from collections import namedtuple
 
+from .tokens import Fault, tokens
+
 Node = namedtuple('Node', 'word args at')
 Name = namedtuple('Name', 'iri at')
 Literal = namedtuple('Literal', 'text at')
 Number = namedtuple('Number', 'value at')
-Token = namedtuple('Token', 'kind text at')
 
 OWL = 'http://www.w3.org/2002/07/owl#'
 STANDARD_PREFIXES = {'owl:': OWL, 'rdf:': 'http://www.w3.org/1999/02/22-rdf-syntax-ns#',
                      'rdfs:': 'http://www.w3.org/2000/01/rdf-schema#', 'xsd:': 'http://www.w3.org/2001/XMLSchema#'}
-
-# behind a prefix: SPARQL 1.1's local names without backslashes; SHORT is the older, narrower form, for writing
-LOCAL = r'(?:[\w:]|%[0-9A-Fa-f]{2})(?:(?:[\w:.·\-]|%[0-9A-Fa-f]{2})*(?:[\w:·\-]|%[0-9A-Fa-f]{2}))?'
-SHORT = re.compile(r'\w(?:[\w.·\-]*[\w·\-])?')
-TOKEN = re.compile(rf'''
-    (?P<space> [ \t\n]+ | \#[^\n]* )
-  | (?P<full> <[^\x00-\x20<>"{{}}|^`\\]*> )
-  | (?P<string> "(?:[^"\\]|\\[\s\S])*" )
-  | (?P<anonymous> _:{LOCAL} )
-  | (?P<short> (?:[^\W\d_](?:[\w.·\-]*[\w·\-])?)?:(?:{LOCAL})? )
-  | (?P<number> [0-9]+ )
-  | (?P<word> [A-Za-z]\w* )
-  | (?P<tag> @[A-Za-z]+(?:-[A-Za-z0-9]+)* )
-  | (?P<mark> \^\^ | [()=] )
-''', re.VERBOSE)
-
-
-class Fault(Exception):
-    """What is wrong with a file, and the offset where, if there is one."""
-
-    def __init__(self, words, at=None):
-        super().__init__(words)
-        self.words, self.at = words, at
 
 
 def place(text, at):
@@ -42,26 +20,15 @@ def place(text, at):
     return text.count('\n', 0, at) + 1, at - text.rfind('\n', 0, at)
 
 
-def tokens(text):
-    at = 0
-    while at < len(text):
-        found = TOKEN.match(text, at)
-        if not found:
-            begun = {'"': 'a string begins here that is not closed',
-                     '<': 'an IRI begins here that is not closed, or has a sign that an IRI cannot have'}
-            raise Fault(begun.get(text[at], f'unexpected sign {text[at]!r}'), at)
-        if found.lastgroup != 'space':
-            yield Token(found.lastgroup, found.group(), at)
-        at = found.end()
-    yield Token('end', 'the end of the file', at)
+def unescaped(local):
+    """What stands behind a prefix, without the backslashes of its escapes."""
+    return re.sub(r'\\(.)', r'\1', local)
 
 
 class Parser:
     """A document under reading. `axioms` are the words that stand in Ontology( ) itself and nowhere deeper."""
 
     def __init__(self, text, axioms):
-        if re.match(r'\s*<(\?xml|!DOCTYPE|rdf:RDF)', text):
-            raise Fault('this is XML; functional-style syntax is expected, in which an OWL editor can save it', 0)
         self.text, self.axioms, self.rest, self.prefixes = text, axioms, tokens(text), {}
         self.token = next(self.rest)
 
@@ -122,6 +89,8 @@ class Parser:
                     raise Fault(f'{word.text}( begins inside {opened[1].word}( of line {line}, column {column}, which is '
                                 'not closed', word.at)
                 opened.append(Node(word.text, [], word.at))
+            elif self.token == ('mark', '(', self.token.at) and opened[-1].word == 'HasKey':
+                opened.append(Node('', [], self.advance().at))  # its list of roles, or of data properties
             elif self.token.text == ')' and self.token.kind == 'mark':
                 self.advance()
                 node = opened.pop()
@@ -162,4 +131,4 @@ class Parser:
             raise Fault(f'expected a name, found the prefix {prefix} alone', token.at)
         if prefix not in self.prefixes and prefix not in STANDARD_PREFIXES:
             raise Fault(f'the prefix {prefix} is not declared', token.at)
-        return Name(self.prefixes.get(prefix, STANDARD_PREFIXES.get(prefix)) + local, token.at)
+        return Name(self.prefixes.get(prefix, STANDARD_PREFIXES.get(prefix)) + unescaped(local), token.at)

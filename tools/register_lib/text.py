@@ -3,7 +3,7 @@ import book_format as f
 
 from . import words
 from .names import BOTTOM, TOP
-from .syntax import Fault
+from .tokens import Fault
 
 MOST_NODES = 1000000  # of all expressions, written out
 ENTITIES = ('Class', 'ObjectProperty', 'NamedIndividual')

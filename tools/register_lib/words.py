@@ -8,7 +8,7 @@ import difflib
 
 import book_format as f
 
-from .syntax import Fault
+from .tokens import Fault
 
 STATEMENTS = {
     'SubClassOf': (f.SUB_CLASS, 'CC'), 'EquivalentClasses': (f.EQUIVALENT, 'C2'), 'DisjointClasses': (f.DISJOINT, 'C2'),
@@ -40,6 +40,9 @@ UNHELD['EquivalentObjectProperties'] = 'SubObjectPropertyOf in both directions s
 UNHELD['DisjointUnion'] = 'EquivalentClasses with ObjectUnionOf, and DisjointClasses, say the same'
 UNHELD_CONCEPTS = {'DataSomeValuesFrom', 'DataAllValuesFrom', 'DataHasValue', 'DataMinCardinality', 'DataMaxCardinality',
                    'DataExactCardinality'}
+# words of other times and places, with how their meaning is written
+ELSEWHERE = dict.fromkeys(('SubPropertyChainOf', 'PropertyChain', 'ObjectPropertyChain'),
+                          'a chain is written SubObjectPropertyOf(ObjectPropertyChain(..) ..)')
 # the words that stand in Ontology( ) itself, but for its annotations
 AXIOMS = {'Declaration', *STATEMENTS, *UNHELD, *SILENT} - {'Annotation'}
 
@@ -68,5 +71,7 @@ def left_out(kind):
 
 def unknown(node, what, known):
     """The fault of a word that is none of the known ones."""
+    if node.word in ELSEWHERE:
+        return Fault(f'{node.word} is no {what}; {ELSEWHERE[node.word]}', node.at)
     near = difflib.get_close_matches(node.word, sorted(known), 1)
     return Fault(f'{node.word} is no {what}' + (f'; did you mean {near[0]}?' if near else ''), node.at)

@@ -1,0 +1,89 @@
+"""The proved library: a function for each one of include/saturation.h, called by ctypes. The shared object is linked from
+the static library, by cc, where it is missing or older."""
+import ctypes
+import functools
+import os
+import pathlib
+import subprocess
+import threading
+from collections import namedtuple
+from concurrent.futures import ThreadPoolExecutor
+
+NAME = 'saturation'  # of the crate that it is built from
+BUILD = f'rt staticlib {NAME}'
+ARCHIVE = pathlib.Path(__file__).resolve().parent.parent.parent / 'target' / 'staticlib' / f'lib{NAME}.a'
+CC = os.environ.get('CC') or 'cc'
+STACK = 16 << 20  # bytes for a call, of which the header asks for 5 MB at most
+
+MOST_BUDGET = 1000000
+FINISHED, CLASH, SPENT, REFUSED = 0, 1, 2, 100
+EDGES, PAIRS = 0, 1
+
+# the end as a number, the three counts, and the three lists at exit, as arrays of c_uint32
+Run = namedtuple('Run', 'end type_count edge_count pair_count types edges pairs')
+
+
+class NotBuilt(Exception):
+    """Why the library cannot be called, and what builds it."""
+
+
+def saturate(book, budget, type_room, edge_room, pair_room):
+    """A run on the bytes of a book, with lists of so many entries."""
+    lists = [(ctypes.c_uint32 * room)() for room in (type_room, edge_room, pair_room)]
+    counts = [ctypes.c_uint32() for _ in range(3)]
+    lent = [word for entries in lists for word in (entries, len(entries))]
+    end = called('zamoluvel_saturate', book, len(book), budget, *lent, *map(ctypes.byref, counts))
+    return Run(end, *(count.value for count in counts), *lists)
+
+
+def named_part(end, edge_count, pair_count, named):
+    """How many entries of the named list, EDGES or PAIRS, the facts of a run fill."""
+    return called('zamoluvel_named_part', end, edge_count, pair_count, named)
+
+
+def called(function, *args):
+    """What a function of the library returns, on a thread with stack enough."""
+    with ThreadPoolExecutor(1) as pool:
+        function = getattr(loaded(), function)
+        before = threading.stack_size(STACK)
+        answer = pool.submit(function, *args)
+        threading.stack_size(before)
+        return answer.result()
+
+
+@functools.lru_cache(maxsize=None)
+def loaded():
+    """The shared object, with the types of the header."""
+    try:
+        library = ctypes.CDLL(str(linked()))
+    except OSError as error:
+        raise NotBuilt(f'the library cannot be loaded: {error}') from None
+    size, number, numbers = ctypes.c_size_t, ctypes.c_uint32, ctypes.POINTER(ctypes.c_uint32)
+    types = {
+        'zamoluvel_saturate': (number, ctypes.c_char_p, size, ctypes.c_uint64, *[numbers, size] * 3, *[numbers] * 3),
+        'zamoluvel_named_part': (size, *[number] * 4),
+    }
+    for name, (result, *args) in types.items():
+        if not hasattr(library, name):
+            raise NotBuilt(f'the library has no {name}; `{BUILD}` builds it anew')
+        function = getattr(library, name)
+        function.restype, function.argtypes = result, args
+    return library
+
+
+def linked():
+    """The path of the shared object, linked anew where the static library is newer."""
+    shared = ARCHIVE.with_suffix('.so')
+    if not ARCHIVE.exists():
+        raise NotBuilt(f'the library target/staticlib/{ARCHIVE.name} is not built; `{BUILD}` builds it, which proves '
+                       'its crates and takes some minutes the first time')
+    if not shared.exists() or shared.stat().st_mtime <= ARCHIVE.stat().st_mtime:
+        # under a name of its own first, so that a run at the same time never loads a part of it
+        fresh = shared.with_suffix(f'.{os.getpid()}.so')
+        try:
+            subprocess.run([CC, '-shared', '-Wl,-z,defs,-z,text', '-Wl,--whole-archive', ARCHIVE, '-Wl,--no-whole-archive',
+                            '-o', fresh], check=True)
+            os.replace(fresh, shared)
+        except (OSError, subprocess.CalledProcessError) as error:
+            raise NotBuilt(f'{CC}, which links the library, cannot be run or fails: {error}') from None
+    return shared
