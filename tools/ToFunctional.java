@@ -88,7 +88,7 @@ public class ToFunctional {
         List<RDFTriple> unread = format.getOntologyLoaderMetaData()
             .map(data -> data.getUnparsedTriples().collect(Collectors.toList())).orElse(List.of());
         if (!unread.isEmpty()) {
-            System.err.println("triples\t" + unread.size() + "\t" + unread.get(0));
+            System.err.println("triples\t" + unread.size() + "\t" + unread.get(0).toString().replaceAll("\\s+", " "));
         }
     }
 

@@ -62,7 +62,7 @@ def convert(data, syntax, base):
     if done.returncode:
         raise Missing(f'this is {syntax}, and {SOURCE.name}, which converts it, cannot be run; it needs {INSTALL}: '
                       + ' '.join(said[:1]))
-    notes = [line.split('\t') for line in said if line.count('\t') == 2]
+    notes = [line.split('\t', 2) for line in said if line.startswith(('triples\t', 'links\t'))]
     return done.stdout.decode(), [sentence(*note) for note in notes]
 
 
