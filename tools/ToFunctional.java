@@ -1,3 +1,4 @@
+import java.io.IOException;
 import java.io.OutputStreamWriter;
 import java.io.Writer;
 import java.nio.charset.StandardCharsets;
@@ -37,7 +38,7 @@ public class ToFunctional {
         "Turtle", new RioTurtleDocumentFormat(), "RDF/XML", new RDFXMLDocumentFormat(),
         "OWL/XML", new OWLXMLDocumentFormat(), "Manchester syntax", new ManchesterSyntaxDocumentFormat());
 
-    public static void main(String[] args) throws Exception {
+    public static void main(String[] args) {
         try {
             OWLOntologyManager manager = OWLManager.createOWLOntologyManager();
             OWLOntology ontology = manager.loadOntologyFromOntologyDocument(
@@ -105,7 +106,7 @@ public class ToFunctional {
             System.err.println("links\t" + count + "\t" + property.toQuotedString()));
     }
 
-    static void write(OWLOntology ontology, ShortNames names) throws Exception {
+    static void write(OWLOntology ontology, ShortNames names) throws IOException {
         Writer out = new OutputStreamWriter(System.out, StandardCharsets.UTF_8);
         FunctionalSyntaxObjectRenderer renderer = new FunctionalSyntaxObjectRenderer(ontology, out);
         renderer.setPrefixManager(names);

@@ -61,7 +61,8 @@ def run_library(data, counts, budget):
     if got.end != library.FINISHED:
         word = {library.CLASH: 'clash', library.SPENT: 'spent'}.get(got.end, 'refused')
         return Run(word, [got.end - library.REFUSED] if word == 'refused' else numbers[:2], [])
-    edge_part, pair_part = (library.named_part(*got[:1], *got[2:4], named) for named in (library.EDGES, library.PAIRS))
+    edge_part, pair_part = (library.named_part(got.end, got.edge_count, got.pair_count, named)
+                            for named in (library.EDGES, library.PAIRS))
     parts = [('t', 2, got.types[:2 * got.type_count]), ('e', 3, got.edges[:edge_part]), ('s', 2, got.pairs[:pair_part])]
     return Run('finished', numbers, [(letter, *part[n:n + width]) for letter, width, part in parts
                                      for n in range(0, len(part), width)])

@@ -17,7 +17,7 @@ JARS = pathlib.Path('/usr/share/java')  # where Debian's packages have theirs
 NEEDED = ('owlapi-distribution slf4j-api slf4j-nop guava caffeine commons-io atinject-jsr330-api hppcrt rdf4j-model '
           'rdf4j-model-api rdf4j-model-vocabulary rdf4j-rio-api rdf4j-rio-turtle rdf4j-util commons-rdf-api xz').split()
 INSTALL = 'a JDK of version 11 or later and the OWL API (on Debian: apt install default-jdk-headless libowlapi-java)'
-# a short run: nothing is compiled for speed, and nothing but the input is read
+# quick to start, and nothing that XML names is fetched
 OPTIONS = ('-XX:TieredStopAtLevel=1', '-XX:+UseSerialGC', '-Djavax.xml.accessExternalDTD=', '-Djavax.xml.accessExternalSchema=')
 
 
@@ -56,9 +56,10 @@ def convert(data, syntax, base):
     jars = ':'.join(str(JARS / f'{name}.jar') for name in NEEDED)
     done = subprocess.run([JAVA, *OPTIONS, '-cp', jars, SOURCE, syntax, base], input=data, capture_output=True, check=False)
     said = done.stderr.decode('utf-8', 'replace').splitlines()
-    refused = [line for line in said if line.startswith('refused: ')]
+    refused = [line.removeprefix('refused: ') for line in said if line.startswith('refused: ')]
     if refused:
-        raise Fault(f'the OWL API cannot read this as {syntax}: {refused[0].removeprefix("refused: ")[:400]}')
+        reason = re.sub(r'^lineNumber: (\d+); columnNumber: (\d+);', r'line \1, column \2:', refused[0])
+        raise Fault(f'the OWL API cannot read this as {syntax}: {reason[:400]}')
     if done.returncode:
         raise Missing(f'this is {syntax}, and {SOURCE.name}, which converts it, cannot be run; it needs {INSTALL}: '
                       + ' '.join(said[:1]))

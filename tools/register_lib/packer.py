@@ -107,6 +107,8 @@ class Packer:
 
     def number(self, table, key, at):
         """The number of a key: the one it has, or the next."""
+        if isinstance(key, str) and key.startswith(UNREAD):
+            raise LeftOut('what an OWL editor could not read')
         return table.setdefault(key, (len(table), at))[0]
 
     def role(self, tree):
@@ -170,8 +172,6 @@ class Packer:
             raise Fault('expected a class expression', name.at)
         if name.iri in (TOP, BOTTOM):
             return self.kept(name, f.TOP if name.iri == TOP else f.BOT)
-        if name.iri.startswith(UNREAD):
-            raise LeftOut('a class expression that an OWL editor could not read')
         return self.kept(name, f.ATOMIC, self.number(self.classes, name.iri, name.at))
 
     def kept(self, tree, *record):

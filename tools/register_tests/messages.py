@@ -120,7 +120,7 @@ class Messages(FileCase):
             '1 SubClassOf with a bound above 4,294,967,295, first at line 8, column 3',
             '1 SubObjectPropertyOf with owl:topObjectProperty, first at line 9, column 3',
             '1 SubClassOf with ObjectUnionOf of more than 255 parts, first at line 10, column 3',
-            '1 SubClassOf with a class expression that an OWL editor could not read, first at line 11, column 68'])
+            '1 SubClassOf with what an OWL editor could not read, first at line 11, column 68'])
         status, err = self.packed(HEAD + text.replace('DifferentIndividuals(:a :b)', '') + ')', '--strict')
         self.assertEqual(status, 1)
         self.assertTrue(err.startswith('file.ofn: line 4, column 3: a book cannot hold this: SubClassOf with DataHasValue\n'), err)

@@ -107,7 +107,7 @@ class Conversion(FileCase):
         text = '<Ontology xmlns="http://www.w3.org/2002/07/owl#"><Class></Ontology>'
         status, _, err = self.run_on(text, 'pack', name='file.owx')
         self.assertEqual(status, 1)
-        self.assertTrue(err.startswith('file.owx: the OWL API cannot read this as OWL/XML: lineNumber: 1;'), err)
+        self.assertTrue(err.startswith('file.owx: the OWL API cannot read this as OWL/XML: line 1, column '), err)
 
     def test_run(self):
         """./run takes such a file too."""
