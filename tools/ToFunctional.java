@@ -4,14 +4,21 @@ import java.io.Writer;
 import java.nio.charset.StandardCharsets;
 import java.util.List;
 import java.util.Map;
+import java.util.Optional;
 import java.util.TreeMap;
 import java.util.stream.Collectors;
+import org.eclipse.rdf4j.model.BNode;
+import org.eclipse.rdf4j.model.impl.SimpleValueFactory;
+import org.eclipse.rdf4j.rio.helpers.BasicParserSettings;
+import org.eclipse.rdf4j.rio.helpers.StatementCollector;
+import org.eclipse.rdf4j.rio.turtle.TurtleParser;
 import org.semanticweb.owlapi.apibinding.OWLManager;
 import org.semanticweb.owlapi.formats.ManchesterSyntaxDocumentFormat;
 import org.semanticweb.owlapi.formats.OWLXMLDocumentFormat;
 import org.semanticweb.owlapi.formats.RDFXMLDocumentFormat;
 import org.semanticweb.owlapi.formats.RioTurtleDocumentFormat;
 import org.semanticweb.owlapi.functional.renderer.FunctionalSyntaxObjectRenderer;
+import org.semanticweb.owlapi.io.OWLOntologyDocumentSource;
 import org.semanticweb.owlapi.io.OWLParserException;
 import org.semanticweb.owlapi.io.RDFTriple;
 import org.semanticweb.owlapi.io.StreamDocumentSource;
@@ -22,7 +29,9 @@ import org.semanticweb.owlapi.model.OWLDocumentFormat;
 import org.semanticweb.owlapi.model.OWLOntology;
 import org.semanticweb.owlapi.model.OWLOntologyLoaderConfiguration;
 import org.semanticweb.owlapi.model.OWLOntologyManager;
+import org.semanticweb.owlapi.rio.RioMemoryTripleSource;
 import org.semanticweb.owlapi.util.DefaultPrefixManager;
+import org.semanticweb.owlapi.vocab.Namespaces;
 
 /**
  * Converts an ontology on standard input to functional-style syntax on standard output, through the OWL API.
@@ -34,7 +43,6 @@ import org.semanticweb.owlapi.util.DefaultPrefixManager;
  */
 public class ToFunctional {
     static final Map<String, OWLDocumentFormat> FORMATS = Map.of(
-        // Rio's parser takes all of Turtle, the OWL API's own one does not
         "Turtle", new RioTurtleDocumentFormat(), "RDF/XML", new RDFXMLDocumentFormat(),
         "OWL/XML", new OWLXMLDocumentFormat(), "Manchester syntax", new ManchesterSyntaxDocumentFormat());
 
@@ -42,8 +50,7 @@ public class ToFunctional {
         try {
             OWLOntologyManager manager = OWLManager.createOWLOntologyManager();
             OWLOntology ontology = manager.loadOntologyFromOntologyDocument(
-                new StreamDocumentSource(System.in, IRI.create(args[1]), FORMATS.get(args[0]), null),
-                new NothingFetched());
+                source(FORMATS.get(args[0]), args[1]), new NothingFetched());
             OWLDocumentFormat format = manager.getOntologyFormat(ontology);
             noteTriples(format);
             if (format instanceof RioTurtleDocumentFormat || format instanceof RDFXMLDocumentFormat) {
@@ -54,6 +61,42 @@ public class ToFunctional {
             System.err.println("refused: " + reason(fault).strip().replaceAll("\\s*\\R\\s*", " ")
                 .replaceFirst("^[\\w.]*Exception[:;] (systemId: \\S*; )?", ""));
             System.exit(1);
+        }
+    }
+
+    static OWLOntologyDocumentSource source(OWLDocumentFormat format, String base) throws IOException {
+        return format instanceof RioTurtleDocumentFormat ? Turtle.read(base)
+            : new StreamDocumentSource(System.in, IRI.create(base), format, null);
+    }
+
+    /**
+     * Turtle as the triples that Rio reads, which takes all of Turtle, as the OWL API's own parser does not. Nodes
+     * without a label are numbered as they come, not by the clock, so that every run gives the same text.
+     */
+    static class Turtle extends RioMemoryTripleSource {
+        Turtle(StatementCollector triples) {
+            super(triples.getStatements().iterator(), triples.getNamespaces());
+        }
+
+        static Turtle read(String base) throws IOException {
+            TurtleParser parser = new TurtleParser(new SimpleValueFactory() {
+                private int nodes;
+
+                @Override
+                public synchronized BNode createBNode() {
+                    return createBNode("unlabelled-" + nodes++);
+                }
+            });
+            parser.getParserConfig().set(BasicParserSettings.PRESERVE_BNODE_IDS, true);
+            StatementCollector triples = new StatementCollector();
+            parser.setRDFHandler(triples);
+            parser.parse(System.in, base);
+            return new Turtle(triples);
+        }
+
+        @Override
+        public Optional<OWLDocumentFormat> getFormat() {
+            return Optional.of(new RioTurtleDocumentFormat());
         }
     }
 
@@ -84,10 +127,11 @@ public class ToFunctional {
         }
     }
 
-    /** Tells of the triples of which no axiom was made. */
+    /** Tells of the triples of which no axiom was made, but for those that annotate an annotation. */
     static void noteTriples(OWLDocumentFormat format) {
-        List<RDFTriple> unread = format.getOntologyLoaderMetaData()
-            .map(data -> data.getUnparsedTriples().collect(Collectors.toList())).orElse(List.of());
+        List<RDFTriple> unread = format.getOntologyLoaderMetaData().map(data -> data.getUnparsedTriples()
+            .filter(triple -> !triple.getPredicate().getIRI().toString().startsWith(Namespaces.OWL + "annotated"))
+            .collect(Collectors.toList())).orElse(List.of());
         if (!unread.isEmpty()) {
             System.err.println("triples\t" + unread.size() + "\t" + unread.get(0).toString().replaceAll("\\s+", " "));
         }

@@ -6,13 +6,13 @@ import book_format as f
 
 from . import words
 from .names import BOTTOM, BUILT_IN_ROLES, TOP, Names
-from .syntax import OWL, Name, Node, Number, Parser
+from .syntax import OWL, UNNAMED, Name, Node, Number, Parser
 from .tokens import Fault
 
 MOST_BYTES = 65536  # of a book that the program reads
 MOST_PARTS = 255
 MOST_BOUND = 2 ** 32 - 1
-UNREAD = 'http://org.semanticweb.owlapi/error#'  # names that OWL editors give to what they could not read
+UNREAD = ('http://org.semanticweb.owlapi/error#', UNNAMED)  # how names begin that stand for what an OWL editor could not read
 WHERE = ('classes', 'roles', 'individuals', 'concepts', 'statements')
 
 
@@ -68,7 +68,7 @@ class Packer:
         name = entity.args[0]
         if name.iri.startswith('_:'):
             raise Fault(f'{name.iri} is anonymous and cannot be declared', name.at)
-        if not name.iri.startswith((OWL, UNREAD)):
+        if not name.iri.startswith((OWL, *UNREAD)):
             self.number(tables[entity.word], name.iri, name.at)
 
     def state(self, node, args):

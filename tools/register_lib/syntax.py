@@ -13,6 +13,7 @@ Number = namedtuple('Number', 'value at')
 OWL = 'http://www.w3.org/2002/07/owl#'
 STANDARD_PREFIXES = {'owl:': OWL, 'rdf:': 'http://www.w3.org/1999/02/22-rdf-syntax-ns#',
                      'rdfs:': 'http://www.w3.org/2000/01/rdf-schema#', 'xsd:': 'http://www.w3.org/2001/XMLSchema#'}
+UNNAMED = '<_:'  # how OWL editors begin the name of a role that has none
 
 
 def place(text, at):
@@ -123,7 +124,8 @@ class Parser:
 
     def name(self, token):
         if token.kind == 'full':
-            return Name(token.text[1:-1], token.at)
+            # no IRI begins with _:, and what an OWL editor writes so stays in its brackets
+            return Name(token.text if token.text.startswith(UNNAMED) else token.text[1:-1], token.at)
         if token.kind == 'anonymous':
             return Name(token.text, token.at)
         prefix, local = re.match('([^:]*:)(.*)', token.text).groups()

@@ -111,6 +111,7 @@ class Messages(FileCase):
   SubObjectPropertyOf(:r owl:topObjectProperty)
   SubClassOf(:A ObjectUnionOf(''' + ':B ' * 256 + '''))
   Declaration(Class(<http://org.semanticweb.owlapi/error#Error1>)) SubClassOf(:A <http://org.semanticweb.owlapi/error#Error1>)
+  Declaration(ObjectProperty(<_:genid7>)) SubObjectPropertyOf(:r <_:genid7>)
   SubClassOf(:A :B)'''
         self.assertEqual(self.left_out(text), [
             '1 DifferentIndividuals, first at line 3, column 1',
@@ -120,7 +121,8 @@ class Messages(FileCase):
             '1 SubClassOf with a bound above 4,294,967,295, first at line 8, column 3',
             '1 SubObjectPropertyOf with owl:topObjectProperty, first at line 9, column 3',
             '1 SubClassOf with ObjectUnionOf of more than 255 parts, first at line 10, column 3',
-            '1 SubClassOf with what an OWL editor could not read, first at line 11, column 68'])
+            '1 SubClassOf with what an OWL editor could not read, first at line 11, column 68',
+            '1 SubObjectPropertyOf with what an OWL editor could not read, first at line 12, column 43'])
         status, err = self.packed(HEAD + text.replace('DifferentIndividuals(:a :b)', '') + ')', '--strict')
         self.assertEqual(status, 1)
         self.assertTrue(err.startswith('file.ofn: line 4, column 3: a book cannot hold this: SubClassOf with DataHasValue\n'), err)

@@ -102,6 +102,14 @@ class Conversion(FileCase):
             'file.ttl: left out, since a book cannot hold it: 2 Import, the first: Import(<http://example.invalid/more>)',
             'file.ttl: left out, since a book cannot hold it: 1 HasKey, the first: HasKey(:A (:p) ())'])
 
+    def test_anonymous(self):
+        """Individuals without a name keep apart, and get the same names on every run."""
+        text = TURTLE_HEAD + ':p a owl:ObjectProperty . :A a owl:Class .' + '\n'.join(
+            f'_:b{n} :p _:b{7 * n % 41} , [ a :A ] .' for n in range(41))
+        first, second = (self.run_on(text, 'conclude', '--program', PROGRAM, name='file.ttl') for _ in range(2))
+        self.assertTrue(first[1].startswith('# finished: 41 types, 82 edges, 0 same pairs\n'), first)
+        self.assertEqual(first, second)
+
     def test_refused(self):
         """What the OWL API says of a file that it refuses."""
         text = '<Ontology xmlns="http://www.w3.org/2002/07/owl#"><Class></Ontology>'
