@@ -123,8 +123,8 @@ def conclude(args):
 def run_program(path, data, book):
     program = pathlib.Path(path or PROGRAM)
     if not path and not program.exists():
-        raise Stop(NOT_RUN, 'the program target/bin/saturate is not built; build it, or name one with --program '
-                   '(tools/saturate-reference is a slow stand-in)')
+        raise Stop(NOT_RUN, 'the program target/bin/saturate is not built; `rt check saturate` builds it; or name one with '
+                   '--program (tools/saturate-reference is a slow stand-in)')
     try:
         # a path without a directory is one in this directory, not one to search for
         return conclusions.read(conclusions.run(program.absolute(), data), book.counts)

@@ -60,7 +60,7 @@ def read(text, counts):
     prefixes, names, given, at = {}, unnamed(counts), {}, 0
     for line in text.split('\n'):
         prefix = re.fullmatch(rf'Prefix\(({PREFIX})=<([^\s<>]*)>\)', line)
-        entry = re.fullmatch(r'(class|role|individual) ([0-9]{1,9}) (\S+)', line)
+        entry = re.fullmatch('(class|role|individual) ([0-9]{1,9}) ([^ \t]+)', line)
         if prefix:
             prefixes[prefix[1]] = prefix[2]
         elif entry:

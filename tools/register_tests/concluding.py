@@ -88,7 +88,7 @@ class Conclusions(FileCase):
                 self.assertEqual((status, out), (2, ''))
                 self.assertIn(words, err)
             with mock.patch.object(command, 'PROGRAM', pathlib.Path(folder, 'none')):
-                self.assertIn('is not built', register('conclude', EXAMPLES[0])[2])
+                self.assertIn('is not built; `rt check saturate` builds it', register('conclude', EXAMPLES[0])[2])
 
     def test_budgets(self):
         """Budgets that are none, and a library that is not built."""
