@@ -84,7 +84,11 @@ def bars():
     b = Register(0, 2, 2).tell(f.SUB_ROLE, P, Q_INV).tell(f.ROLE_ASSERTION, P, 0, 1)
     star('p under the inverse of q, p(0,1): q(1,0)', b, 'finished 0 2 0', edges=[(0, 0, 1), (1, 1, 0)])
     b = Register(0, 2, 2).tell(f.SUB_ROLE, P_INV, Q).tell(f.ROLE_ASSERTION, P, 0, 1)
-    row('the inverse of p under q, p(0,1): nothing more', b, 'finished 0 1 0', edges=[(0, 0, 1)])
+    row('the inverse of p under q, p(0,1): q(1,0)', b, 'finished 0 2 0', edges=[(0, 0, 1), (1, 1, 0)])
+    b = Register(0, 2, 2).tell(f.SUB_ROLE, P_INV, Q_INV).tell(f.ROLE_ASSERTION, P, 0, 1)
+    row('the inverse of p under the inverse of q, p(0,1): q(0,1)', b, 'finished 0 2 0', edges=[(0, 0, 1), (1, 0, 1)])
+    b = Register(0, 1, 3).tell(f.SUB_ROLE, P_INV, P).tell(f.ROLE_ASSERTION, P, 0, 1).tell(f.ROLE_ASSERTION, P_INV, 1, 2)
+    row('the inverse of p under p, p(0,1), p(2,1): p(1,0) and p(1,2)', b, 'finished 0 4 0', edges=[(0, 0, 1), (0, 1, 0), (0, 1, 2), (0, 2, 1)])
     six = [(0, 0, 1), (0, 0, 2), (0, 0, 3), (0, 1, 2), (0, 1, 3), (0, 2, 3)]
     b = Register(0, 1, 4).tell(f.TRANSITIVE, P)
     for a in range(3):
@@ -151,10 +155,10 @@ def bars():
     row('the domain of p is A, p(0,1): 0:A', b.tell(f.DOMAIN, P, a).tell(f.ROLE_ASSERTION, P, 0, 1), 'finished 1 1 0', types=[(0, 0)], edges=[(0, 0, 1)])
     b = Register(1, 1, 2)
     a, = b.classes(1)
-    row('the domain of the inverse of p is A, p(0,1): nothing more', b.tell(f.DOMAIN, P_INV, a).tell(f.ROLE_ASSERTION, P, 0, 1), 'finished 0 1 0', edges=[(0, 0, 1)])
+    row('the domain of the inverse of p is A, p(0,1): 1:A', b.tell(f.DOMAIN, P_INV, a).tell(f.ROLE_ASSERTION, P, 0, 1), 'finished 1 1 0', types=[(1, 0)], edges=[(0, 0, 1)])
     b = Register(1, 1, 2)
     a, = b.classes(1)
-    row('the range of the inverse of p is A, p(0,1): nothing more', b.tell(f.RANGE, P_INV, a).tell(f.ROLE_ASSERTION, P, 0, 1), 'finished 0 1 0', edges=[(0, 0, 1)])
+    row('the range of the inverse of p is A, p(0,1): 0:A', b.tell(f.RANGE, P_INV, a).tell(f.ROLE_ASSERTION, P, 0, 1), 'finished 1 1 0', types=[(0, 0)], edges=[(0, 0, 1)])
     b = Register(4, 1, 2)
     a, e = nested(b)
     row('the range of p is B and (C and D), p(0,1): 1:B', b.tell(f.RANGE, P, e).tell(f.ROLE_ASSERTION, P, 0, 1), 'finished 1 1 0', types=[(1, 1)], edges=[(0, 0, 1)])
@@ -226,10 +230,10 @@ def bars():
     top = b.concept(f.TOP)
     right = b.both(x, top, b.value(Q, 2))
     told = b.both(b.both(a), top)
-    b.tell(f.SUB_CLASS, a, right).tell(f.EQUIVALENT, x, c).tell(f.DISJOINT, a, d).tell(f.SUB_ROLE, P, Q).tell(f.RANGE, P, c)
+    b.tell(f.SUB_CLASS, a, right).tell(f.EQUIVALENT, x, c).tell(f.DISJOINT, a, d).tell(f.SUB_ROLE, P_INV, Q).tell(f.DOMAIN, P_INV, c)
     b.tell(f.SAME, 0, 1).tell(f.CLASS_ASSERTION, told, 0).tell(f.ROLE_ASSERTION, P, 0, 2)
-    row('a plain book', b, 'finished 8 4 0', types=[(0, 0), (0, 1), (0, 2), (1, 0), (1, 1), (1, 2), (2, 1), (2, 2)],
-        edges=[(0, 0, 2), (0, 1, 2), (1, 0, 2), (1, 1, 2)])
+    row('a plain book', b, 'finished 8 6 0', types=[(0, 0), (0, 1), (0, 2), (1, 0), (1, 1), (1, 2), (2, 1), (2, 2)],
+        edges=[(0, 0, 2), (0, 1, 2), (1, 0, 2), (1, 1, 2), (1, 2, 0), (1, 2, 1)], budget=14)
     return out
 
 

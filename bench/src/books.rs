@@ -129,6 +129,14 @@ fn inverse_web() -> Book {
     book
 }
 
+/// 30 roles, the inverse of each under the next, and the first leads everyone to everyone.
+fn inverse_paths() -> Book {
+    let mut book = empty(0, 30, 128);
+    everyone(&mut book, 128);
+    (0..29).for_each(|r| book.tell(book::SUB_ROLE, &[2 * r + 1, 2 * r + 2]));
+    book
+}
+
 /// Books of one role, two individuals and one to three statements.
 fn tiny() -> Vec<Book> {
     let mut random = Random::new(2);
@@ -189,6 +197,7 @@ pub fn all() -> Vec<Named> {
         one("told-same: 16 blocks of 32", same_blocks()),
         one("told-same: one class of 512", same_class(512)),
         one("inverse web of 30 roles", inverse_web()),
+        one("inverse paths through 30 roles", inverse_paths()),
         Named { name: "10,000 tiny books".into(), books: tiny() },
         one("nested conjunctions, 3,840 deep", nested()),
         one("shared conjunctions, 20 deep", shared(20)),

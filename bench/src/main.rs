@@ -74,7 +74,7 @@ fn child(runs: usize) {
     let books: Vec<_> = lines.map(|line| unhex(&line).expect("hexadecimal")).collect();
     for _ in 0..runs {
         let start = thread_time();
-        let ontology = |data: &Vec<u8>| rust::ontology(&Book::read(data).expect("an accepted book"));
+        let ontology = |data: &Vec<u8>| rust::ontology(Book::read(data).expect("an accepted book"));
         let ontologies: Vec<_> = books.iter().map(ontology).collect();
         let built = thread_time();
         let facts: u64 = ontologies.iter().map(rust::saturate).map(|a| a.types + a.edge_additions).sum();

@@ -2,11 +2,14 @@
 //!
 //!     oracle compare [--books N] [--seed S] [--profile NAME] [--server COMMAND ..]
 //!         random books through both sides; the last line counts how many were compared fully, partly and not, and
-//!         the disagreements. Ours is the linked library, or the process that COMMAND starts (see ours.rs).
+//!         the disagreements; column `turned` counts the books with a statement that is turned round for the Rust (see
+//!         rust.rs). Ours is the linked library, or the process that COMMAND starts (see ours.rs).
 //!     oracle book PROFILE SEED PLACE
 //!         one random book in hexadecimal
 //!     oracle answer BOOK [RUNS]
 //!         the book in words and the Rust's answer, over RUNS runs of the process if given; BOOK is a file or hexadecimal
+//!     oracle as-written BOOK
+//!         the same, where no statement is turned round for the Rust
 //!     oracle rule BOOK
 //!         the rule of comparison under which the book falls
 //!     oracle record FILE
@@ -65,6 +68,7 @@ struct Tally {
     alike: u64,
     not: u64,
     clashes: u64,
+    turned: u64,
     disagreements: u64,
 }
 
@@ -81,12 +85,13 @@ impl Tally {
         self.alike += other.alike;
         self.not += other.not;
         self.clashes += other.clashes;
+        self.turned += other.turned;
         self.disagreements += other.disagreements;
     }
 
     fn line(&self, name: &str) -> String {
         format!(
-            "{name:>8} {:>8} {:>10} {:>10} {:>8} {:>8} {:>6} {:>8} {:>6}",
+            "{name:>8} {:>8} {:>10} {:>10} {:>8} {:>8} {:>6} {:>8} {:>6} {:>6}",
             self.books,
             self.one_filler,
             self.nothing_brought,
@@ -94,6 +99,7 @@ impl Tally {
             self.alike,
             self.not,
             self.clashes,
+            self.turned,
             self.disagreements
         )
     }
@@ -118,8 +124,8 @@ fn compare_books(options: &Options, side: &mut dyn Side) -> Tally {
     let mut all = Tally::default();
     println!("         {:>8} {:>21} {:>17}", "", "compared fully", "compared partly");
     println!(
-        " profile {:>8} {:>10} {:>10} {:>8} {:>8} {:>6} {:>8} {:>6}",
-        "books", "one filler", "no bring", "", "alike", "not", "clashes", "disagr"
+        " profile {:>8} {:>10} {:>10} {:>8} {:>8} {:>6} {:>8} {:>6} {:>6}",
+        "books", "one filler", "no bring", "", "alike", "not", "clashes", "turned", "disagr"
     );
     for (at, profile) in profiles.iter().enumerate() {
         let mut tally = Tally::default();
@@ -135,6 +141,7 @@ fn compare_books(options: &Options, side: &mut dyn Side) -> Tally {
             let ours = side.run(&book);
             tally.books += 1;
             tally.clashes += u64::from(matches!(ours, oracle::ours::End::Clash { .. }));
+            tally.turned += u64::from(rust::turns(&book));
             match compare(&book, &ours) {
                 Verdict::Fully(Rule::OneFiller) => tally.one_filler += 1,
                 Verdict::Fully(_) => tally.nothing_brought += 1,
@@ -259,6 +266,11 @@ fn run(words: &[String]) -> Result<ExitCode, String> {
         Some("answer") if words.len() > 1 => run_answer(&words[1..]),
         Some("record") if words.len() == 2 => run_record(&words[1]),
         Some("replay") if words.len() > 1 => run_replay(&words[1], &words[2..]),
+        Some("as-written") if words.len() == 2 => {
+            let book = named_book(&words[1])?;
+            println!("{}\n{}\n{}", hex(&book.bytes()), book.words(), rust::run_as_written(&book));
+            Ok(ExitCode::SUCCESS)
+        }
         Some("rule") if words.len() > 1 => {
             println!("{:?}", compare::rule(&named_book(&words[1])?));
             Ok(ExitCode::SUCCESS)
@@ -269,7 +281,8 @@ fn run(words: &[String]) -> Result<ExitCode, String> {
             println!("{}", hex(&generate::book(profile, seed?, place?).bytes()));
             Ok(ExitCode::SUCCESS)
         }
-        _ => Err("usage: oracle compare | book | answer | rule | record | replay; see oracle/src/main.rs".into()),
+        _ => Err("usage: oracle compare | book | answer | as-written | rule | record | replay; see oracle/src/main.rs"
+            .into()),
     }
 }
 

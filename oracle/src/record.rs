@@ -8,7 +8,8 @@ use crate::profile::{Profile, PROFILES};
 use crate::rust::{self, Answer};
 use crate::words::unhex;
 
-/// Books that every list has: 01's worked book, those of docs/DIFFERENCES.md, and some about markers.
+/// Books that every list has: 01's worked book, those of docs/DIFFERENCES.md, some about markers, and some with inverse
+/// roles on the left.
 const FIXED: &str = include_str!("../books.txt");
 
 /// Of each profile, so many books of each rule and verdict, as far as the places searched have them.

@@ -1,7 +1,7 @@
 //! The Rust's answer to a book.
 
 use crate::abox_saturation::{saturate_with, ChainDedupe};
-use crate::book::{self, Book};
+use crate::book::{self, Book, Statement};
 use crate::ir::{ClassId, ConceptExpr, ConceptId, ConceptPool, IndividualId, Role, RoleId};
 use crate::ontology::{Axiom, InternalOntology, SubRolePath, Vocabulary};
 use std::fmt;
@@ -33,8 +33,38 @@ fn role(field: u16) -> Role {
     }
 }
 
-/// The book as the Rust takes it. Numbers stay as they are; concepts go in as they are written.
-pub fn ontology(book: &Book) -> InternalOntology {
+/// Of an inverse role on the left the Rust draws nothing where the path has one role, nor by its domain or range. Such
+/// a statement is turned round to the named role, and says the same: the inverse of p under q becomes p under the
+/// inverse of q, a domain of the inverse of p a range of p, and a range of it a domain.
+fn turn(statement: &mut Statement) {
+    let Statement { kind, fields } = statement;
+    match *kind {
+        book::SUB_ROLE if fields.len() == 2 && fields[0] % 2 == 1 => fields.iter_mut().for_each(|role| *role ^= 1),
+        book::DOMAIN | book::RANGE if fields[0] % 2 == 1 => {
+            *kind = if *kind == book::DOMAIN { book::RANGE } else { book::DOMAIN };
+            fields[0] ^= 1;
+        }
+        _ => {}
+    }
+}
+
+/// Whether a statement of the book is turned round.
+pub fn turns(book: &Book) -> bool {
+    book.statements.iter().any(|statement| {
+        let mut turned = statement.clone();
+        turn(&mut turned);
+        turned != *statement
+    })
+}
+
+/// The book as the Rust is handed it, with inverse roles on the left turned round.
+pub fn ontology(mut book: Book) -> InternalOntology {
+    book.statements.iter_mut().for_each(turn);
+    as_written(&book)
+}
+
+/// The book as the Rust takes it. Numbers stay as they are; concepts and statements go in as they are written.
+fn as_written(book: &Book) -> InternalOntology {
     let mut pool = ConceptPool::new();
     let mut ids: Vec<ConceptId> = Vec::new();
     for concept in &book.concepts {
@@ -101,11 +131,19 @@ pub fn saturate(ontology: &InternalOntology) -> Answer {
     }
 }
 
-pub fn run(book: &Book) -> Answer {
-    let mut answer = saturate(&ontology(book));
+fn sorted(mut answer: Answer) -> Answer {
     answer.edges.sort_unstable();
     answer.pairs.sort_unstable();
     answer
+}
+
+pub fn run(book: &Book) -> Answer {
+    sorted(saturate(&ontology(book.clone())))
+}
+
+/// Its answer to the statements as they are written; nothing is compared with this one.
+pub fn run_as_written(book: &Book) -> Answer {
+    sorted(saturate(&as_written(book)))
 }
 
 /// rustdl's own variables choose other paths through `saturate_with` or trace it; they have no say here. To be

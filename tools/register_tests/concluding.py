@@ -34,7 +34,7 @@ class Conclusions(FileCase):
         return self.run_on(HEAD + axioms + '\n)', 'conclude', '--program', program)
 
     def test_examples(self):
-        self.assertGreaterEqual(len(EXAMPLES), 4)
+        self.assertGreaterEqual(len(EXAMPLES), 5)
         for path in EXAMPLES:
             with self.subTest(path.name):
                 status, out, err = register('conclude', '--strict', path, '--program', PROGRAM)

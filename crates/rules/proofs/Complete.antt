@@ -21,10 +21,10 @@ use Rattle.rules.specs.Fact.{edge, type, two}
 use Rattle.rules.specs.Rule.{Set, Rule, Obeys}
 use Rattle.rules.specs.Brought.{concept, Value, from, leaves, leavesIn, listed, parts, atomicOf, valueOf, atomics, directAtomics, values}
 use Rattle.rules.specs.ToldSame.{sameBy, label, same}
-use Rattle.rules.specs.Meaning.{bring, swap, path1, ifNamed, under, share, ruleOf, rules, conclusions}
+use Rattle.rules.specs.Meaning.{bring, swap, under, share, ruleOf, rules, conclusions}
 use Rattle.rules.specs.Clash.{disjointBy, disjoint, typeClash, markerClash, clashes}
 use Rattle.rules.specs.World.{World, Thing, leads, Leads, Of, OfAll, Under, Apart, PathUnder, True, Fits, TypeTrue, EdgeTrue}
-use Rattle.rules.specs.Plain.{IsAtomic, anAtomic, Simple, simpleAtomic, simpleTop, simpleValue, Each, eachNone, eachMore, Right, rightSimple, rightAnd, Asserted, assertedSimple, assertedAnd, AllAsserted, assertedNone, assertedMore, Reach, reachAtomic, reachAnd, IsNamed, PlainPath, PlainStatement, Plain}
+use Rattle.rules.specs.Plain.{IsAtomic, anAtomic, Simple, simpleAtomic, simpleTop, simpleValue, Each, eachNone, eachMore, Right, rightSimple, rightAnd, Asserted, assertedSimple, assertedAnd, AllAsserted, assertedNone, assertedMore, Reach, reachAtomic, reachAnd, PlainStatement, Plain}
 use Rattle.rules.proofs.Tests.{false-true, or-none, any-none, some-none, and-intro, every-map, every-and, every-left, every-right, every-swap, from-every}
 use Rattle.rules.proofs.Least.{obeys-every, obeys-given}
 use Rattle.rules.proofs.Facts.{edge-named, edge-flipped}
@@ -72,10 +72,6 @@ module _ (B : Book) (inside : Inside B) where
 
   abbrev n : ℕ
   n = B .counts .individuals
-
-  obeys-named : (P : Set) (r : Role) (R : Rule) → IsNamed r → Obeys (ifNamed r R) P → Obeys R P
-  obeys-named P (Named r) R p o = o
-  obeys-named P (Inverse r) R p o = absurd p
 
   -- a role leads in the world where its edge is concluded
   leads-is : (ρ : Role) (x y : ℕ) → leads W ρ x y ≡ S (edge ρ x y)
@@ -258,17 +254,17 @@ module _ (B : Book) (inside : Inside B) where
   swap-true : (ρ σ : Role) → RoleWithin h ρ → Obeys (swap n ρ σ) S → (x y : ℕ) → Thing W x → Thing W y → Leads W ρ x y → Leads W σ y x
   swap-true ρ σ k o x y tx ty l = let e = to-edge ρ x y l in let i = edge-own ρ x y k tx ty e in of-edge σ y x (o x (i .0) y (i .1) e)
 
-  path-true : (p : SubRolePath) (τ : Role) → PlainPath p → PathWithin h p → Obeys (under n p τ) S → PathUnder W p τ
-  path-true (One ρ) τ pl w o = λ x y tx ty l.
+  path-true : (p : SubRolePath) (τ : Role) → PathWithin h p → Obeys (under n p τ) S → PathUnder W p τ
+  path-true (One ρ) τ w o = λ x y tx ty l.
       let e = to-edge ρ x y l in
       let i = edge-own ρ x y w tx ty e in
-      of-edge τ x y (obeys-named S ρ (path1 n ρ τ) pl o x (i .0) y (i .1) e)
-  path-true (Two ρ σ) τ pl w o = λ x u y tx tu ty l m.
+      of-edge τ x y (o x (i .0) y (i .1) e)
+  path-true (Two ρ σ) τ w o = λ x u y tx tu ty l m.
       let e = to-edge ρ x u l in
       let f = to-edge σ u y m in
       let i = edge-own ρ x u (w .0) tx tu e in
       of-edge τ x y (o x (i .0) u (i .1) e y (edge-own σ u y (w .1) tu ty f .1) f)
-  path-true (Three ρ σ υ) τ pl w o = λ x u v y tx tu tv ty l m k.
+  path-true (Three ρ σ υ) τ w o = λ x u v y tx tu tv ty l m k.
       let e = to-edge ρ x u l in
       let f = to-edge σ u v m in
       let g = to-edge υ v y k in
@@ -284,19 +280,19 @@ module _ (B : Book) (inside : Inside B) where
   plain-true (EquivalentClasses c d) p w k t o = (right-true c d (p .0) (atomic-right (concept B d) (p .1)) (o .0), right-true d c (p .1) (atomic-right (concept B c) (p .0)) (o .1))
   plain-true (DisjointClasses c d) p w k t o = apart-true c d (p .0) (p .1) k
   plain-true (InverseObjectProperties ρ σ) p w k t o = λ x y tx ty. (swap-true ρ σ (w .0) (o .0) x y tx ty, swap-true σ ρ (w .1) (o .1) y x ty tx)
-  plain-true (SubObjectPropertyOf q τ) p w k t o = path-true q τ p (w .0) o
-  plain-true (TransitiveRole ρ) p w k t o = path-true (Two ρ ρ) ρ tt (w, w) o
+  plain-true (SubObjectPropertyOf q τ) p w k t o = path-true q τ (w .0) o
+  plain-true (TransitiveRole ρ) p w k t o = path-true (Two ρ ρ) ρ (w, w) o
   plain-true (SymmetricRole ρ) p w k t o = λ x y tx ty. (swap-true ρ ρ w o x y tx ty, swap-true ρ ρ w o y x ty tx)
   plain-true (FunctionalRole ρ) p w k t o = absurd p
   plain-true (InverseFunctionalRole ρ) p w k t o = absurd p
   plain-true (ObjectPropertyDomain ρ c) p w k t o = λ x y tx ty l.
       let e = to-edge ρ x y l in
       let i = edge-own ρ x y (w .0) tx ty e in
-      reach-of x (concept B c) (p .1) (every-map _ (AClass x) (λ d f. f x (i .0) y (i .1) e) (directAtomics (concept B c)) (obeys-every S _ (directAtomics (concept B c)) (obeys-named S ρ _ (p .0) o)))
+      reach-of x (concept B c) p (every-map _ (AClass x) (λ d f. f x (i .0) y (i .1) e) (directAtomics (concept B c)) (obeys-every S _ (directAtomics (concept B c)) o))
   plain-true (ObjectPropertyRange ρ c) p w k t o = λ x y tx ty l.
       let e = to-edge ρ x y l in
       let i = edge-own ρ x y (w .0) tx ty e in
-      reach-of y (concept B c) (p .1) (every-map _ (AClass y) (λ d f. f x (i .0) y (i .1) e) (directAtomics (concept B c)) (obeys-every S _ (directAtomics (concept B c)) (obeys-named S ρ _ (p .0) o)))
+      reach-of y (concept B c) p (every-map _ (AClass y) (λ d f. f x (i .0) y (i .1) e) (directAtomics (concept B c)) (obeys-every S _ (directAtomics (concept B c)) o))
   plain-true (SameIndividual a b) p w k t o = ind-is a (w .0) ∙ (t .0 ∙ sym (ind-is b (w .1)))
   plain-true (ClassAssertion c i) p w k t o =
       asserted-of (W .ind i) (label-lt i (w .1)) (concept B c) p

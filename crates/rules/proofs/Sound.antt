@@ -18,7 +18,7 @@ use Rattle.rules.specs.Fact.{setOf, edge, type}
 use Rattle.rules.specs.Rule.{Set, Rule, Obeys}
 use Rattle.rules.specs.Brought.{concept, Value, listed, atomicOf, atomics, directAtomics, values}
 use Rattle.rules.specs.ToldSame.{sameBy, same}
-use Rattle.rules.specs.Meaning.{brings, bring, swap, path1, ifNamed, under, merge, share, ruleOf, rules, conclusions}
+use Rattle.rules.specs.Meaning.{brings, bring, swap, under, merge, share, ruleOf, rules, conclusions}
 use Rattle.rules.specs.World.{World, Thing, leads, Leads, Of, Under, PathUnder, OneFiller, True, Fits}
 use Rattle.rules.specs.Applied.{In}
 use Rattle.rules.proofs.Tests.{stable, every-map, every-zip, every-and, every-from}
@@ -66,10 +66,6 @@ module _ (W : World) where
 
     abbrev n : ℕ
     n = B .counts .individuals
-
-    pub named-obeys : (P : Set) (r : Role) (R : Rule) → Obeys R P → Obeys (ifNamed r R) P
-    named-obeys P (Named r) R o = o
-    named-obeys P (Inverse r) R o = λ k l. absurd (omega arith)
 
     pub flipped-within : (r : Role) → RoleWithin h r → RoleWithin h (flipped r)
     flipped-within (Named r) l = l
@@ -124,7 +120,7 @@ module _ (W : World) where
     swap-true ρ σ i j u a k b l e = of-leads σ b a j l k (u _ _ (W .ind-thing a) (W .ind-thing b) (to-leads ρ a b i k l e))
 
     under-true : (p : SubRolePath) (τ : Role) → PathWithin h p → RoleWithin h τ → PathUnder W p τ → Obeys (under n p τ) (truth W)
-    under-true (One ρ) τ w m u = named-obeys (truth W) ρ (path1 n ρ τ) (λ a i b j e. of-leads τ a b m i j (u _ _ (W .ind-thing a) (W .ind-thing b) (to-leads ρ a b w i j e)))
+    under-true (One ρ) τ w m u = λ a i b j e. of-leads τ a b m i j (u _ _ (W .ind-thing a) (W .ind-thing b) (to-leads ρ a b w i j e))
     under-true (Two ρ σ) τ w m u = λ a i b j e c k f. of-leads τ a c m i k (u _ _ _ (W .ind-thing a) (W .ind-thing b) (W .ind-thing c) (to-leads ρ a b (w .0) i j e) (to-leads σ b c (w .1) j k f))
     under-true (Three ρ σ υ) τ w m u = λ a i b j e c k f d l g.
         of-leads τ a d m i l (u _ _ _ _ (W .ind-thing a) (W .ind-thing b) (W .ind-thing c) (W .ind-thing d) (to-leads ρ a b (w .0) i j e) (to-leads σ b c (w .1) j k f) (to-leads υ c d (w .2) k l g))
@@ -144,12 +140,12 @@ module _ (W : World) where
     ruleOf-true (InverseFunctionalRole ρ) w t = merge-true (flipped ρ) (flipped-within ρ w) t
     ruleOf-true (ObjectPropertyDomain ρ c) w t =
         let G : ℕ → Type 0 = λ x. (y : ℕ) × Thing W y × Leads W ρ x y in
-        named-obeys (truth W) ρ _ (every-obeys (truth W) _ (directAtomics (concept B c))
-        (every-map _ _ (λ d l a i b j e. of-class a d (l .0) (l .1 (W .ind a) (W .ind-thing a) (W .ind b, W .ind-thing b, to-leads ρ a b (w .0) i j e))) (directAtomics (concept B c)) (all-direct G c (λ x tx g. t x (g .0) tx (g .1) (g .2)))))
+        every-obeys (truth W) _ (directAtomics (concept B c))
+        (every-map _ _ (λ d l a i b j e. of-class a d (l .0) (l .1 (W .ind a) (W .ind-thing a) (W .ind b, W .ind-thing b, to-leads ρ a b (w .0) i j e))) (directAtomics (concept B c)) (all-direct G c (λ x tx g. t x (g .0) tx (g .1) (g .2))))
     ruleOf-true (ObjectPropertyRange ρ c) w t =
         let G : ℕ → Type 0 = λ y. (x : ℕ) × Thing W x × Leads W ρ x y in
-        named-obeys (truth W) ρ _ (every-obeys (truth W) _ (directAtomics (concept B c))
-        (every-map _ _ (λ d l a i b j e. of-class b d (l .0) (l .1 (W .ind b) (W .ind-thing b) (W .ind a, W .ind-thing a, to-leads ρ a b (w .0) i j e))) (directAtomics (concept B c)) (all-direct G c (λ y ty g. t (g .0) y (g .1) ty (g .2)))))
+        every-obeys (truth W) _ (directAtomics (concept B c))
+        (every-map _ _ (λ d l a i b j e. of-class b d (l .0) (l .1 (W .ind b) (W .ind-thing b) (W .ind a, W .ind-thing a, to-leads ρ a b (w .0) i j e))) (directAtomics (concept B c)) (all-direct G c (λ y ty g. t (g .0) y (g .1) ty (g .2))))
     ruleOf-true (SameIndividual a b) w t = λ k l. absurd (omega arith)
     ruleOf-true (ClassAssertion c i) w t =
         let G : ℕ → Type 0 = λ x. x ≡ W .ind i in

@@ -11,9 +11,9 @@ use Rattle.book.specs.Concept.{conceptStart, partList, bound, conceptTail, conc
 use Rattle.book.specs.Statement.{statementStart, pathOf, axiomOf, statementRest, statement}
 use Rattle.book.specs.Tree.{Atomic, Top, Nominal, Some, And, none, more, partTrees}
 use Rattle.book.specs.Book.{Book, concepts, book, accepted, decode}
-use Rattle.book.specs.declared.role.Role.the-variants.{Named}
+use Rattle.book.specs.declared.role.Role.the-variants.{Named, Inverse}
 use Rattle.book.specs.declared.statement.SubRolePath.the-variants.{One}
-use Rattle.book.specs.declared.statement.Axiom.the-variants.{SubClassOf, EquivalentClasses, DisjointClasses, SubObjectPropertyOf, ObjectPropertyRange, SameIndividual, ClassAssertion, ObjectPropertyAssertion}
+use Rattle.book.specs.declared.statement.Axiom.the-variants.{SubClassOf, EquivalentClasses, DisjointClasses, SubObjectPropertyOf, ObjectPropertyDomain, SameIndividual, ClassAssertion, ObjectPropertyAssertion}
 use Rattle.rules.specs.Ends.{Finished, Outcome, outcome}
 use Rattle.rules.specs.Plain.{anAtomic, simpleAtomic, simpleTop, simpleValue, eachNone, eachMore, rightAnd, assertedSimple, assertedAnd, assertedNone, assertedMore, reachAtomic, Plain}
 use Rattle.rules.specs.Demand.{UnlistedFalse}
@@ -31,7 +31,7 @@ B = record {
       ∷ And (more (And (more (Atomic 0) none)) (more Top none))
       ∷ [];
   statements =
-      SubClassOf 0 7 ∷ EquivalentClasses 1 2 ∷ DisjointClasses 0 3 ∷ SubObjectPropertyOf (One (Named 0)) (Named 1) ∷ ObjectPropertyRange (Named 0) 2
+      SubClassOf 0 7 ∷ EquivalentClasses 1 2 ∷ DisjointClasses 0 3 ∷ SubObjectPropertyOf (One (Inverse 0)) (Named 1) ∷ ObjectPropertyDomain (Inverse 0) 2
       ∷ SameIndividual 0 1 ∷ ClassAssertion 9 0 ∷ ObjectPropertyAssertion (Named 0) 0 2 ∷ [];
 }
 
@@ -50,7 +50,7 @@ plain = (
       (
         tt,
         (
-          (tt, reachAtomic (anAtomic 2)),
+          reachAtomic (anAtomic 2),
           (
             tt,
             (
@@ -67,9 +67,9 @@ plain = (
 abbrev run : Outcome
 run = outcome (plainBar .book) (plainBar .budget) (nines (plainBar .typeRoom)) (nines (plainBar .edgeRoom)) (nines (plainBar .pairRoom))
 
-ended : run .end ≡ Finished 8 4 0
+ended : run .end ≡ Finished 8 6 0
 unfolding plainBar
 ended = ap (λ (o : Outcome). o .end) plain-holds
 
-pub separated : UnlistedFalse B run 8 4
-separated = demand (plainBar .book) (plainBar .budget) (nines (plainBar .typeRoom)) (nines (plainBar .edgeRoom)) (nines (plainBar .pairRoom)) B decodes .plain-unlisted plain 8 4 0 ended
+pub separated : UnlistedFalse B run 8 6
+separated = demand (plainBar .book) (plainBar .budget) (nines (plainBar .typeRoom)) (nines (plainBar .edgeRoom)) (nines (plainBar .pairRoom)) B decodes .plain-unlisted plain 8 6 0 ended

@@ -4,9 +4,6 @@ use Rattle.book.specs.Tree.{Concept, Concepts, Top, Atomic, Nominal, And, Some,
 use Rattle.book.specs.Book.{Book}
 use Rattle.book.specs.Within.{Every}
 use Rattle.book.specs.declared.role.Role.{Role}
-use Rattle.book.specs.declared.role.Role.the-variants.{Named, Inverse}
-use Rattle.book.specs.declared.statement.SubRolePath.{SubRolePath}
-use Rattle.book.specs.declared.statement.SubRolePath.the-variants.{One, Two, Three}
 use Rattle.book.specs.declared.statement.Axiom.{Axiom}
 use Rattle.book.specs.declared.statement.Axiom.the-variants.{SubClassOf, EquivalentClasses, DisjointClasses, InverseObjectProperties, SubObjectPropertyOf, TransitiveRole, SymmetricRole, FunctionalRole, InverseFunctionalRole, ObjectPropertyDomain, ObjectPropertyRange, SameIndividual, ClassAssertion, ObjectPropertyAssertion}
 use Rattle.rules.specs.Brought.{concept}
@@ -45,29 +42,20 @@ pub data Reach : Concept → Type 0 where
   reachAtomic : {e : Concept} → IsAtomic e → Reach e
   reachAnd : {es : Concepts} → Each IsAtomic es → Reach (And es)
 
-abbrev pub IsNamed : Role → Type 0
-IsNamed (Named r) = Unit {0}
-IsNamed (Inverse r) = ⊥
-
--- a one-role path is named
-abbrev pub PlainPath : SubRolePath → Type 0
-PlainPath (One r) = IsNamed r
-PlainPath (Two r s) = Unit {0}
-PlainPath (Three r s t) = Unit {0}
-
--- left sides are Atomic, Equivalent and Disjoint stand between Atomics, domain and range on named roles, and no role is functional
+-- left sides are Atomic, Equivalent and Disjoint stand between Atomics, and no role is functional; paths, domains and ranges may be of either
+-- polarity (request No. 2)
 abbrev pub PlainStatement : Book → Axiom → Type 0
 PlainStatement B (SubClassOf c d) = IsAtomic (concept B c) × Right (concept B d)
 PlainStatement B (EquivalentClasses c d) = IsAtomic (concept B c) × IsAtomic (concept B d)
 PlainStatement B (DisjointClasses c d) = IsAtomic (concept B c) × IsAtomic (concept B d)
 PlainStatement B (InverseObjectProperties r s) = Unit {0}
-PlainStatement B (SubObjectPropertyOf p t) = PlainPath p
+PlainStatement B (SubObjectPropertyOf p t) = Unit {0}
 PlainStatement B (TransitiveRole r) = Unit {0}
 PlainStatement B (SymmetricRole r) = Unit {0}
 PlainStatement B (FunctionalRole r) = ⊥
 PlainStatement B (InverseFunctionalRole r) = ⊥
-PlainStatement B (ObjectPropertyDomain r c) = IsNamed r × Reach (concept B c)
-PlainStatement B (ObjectPropertyRange r c) = IsNamed r × Reach (concept B c)
+PlainStatement B (ObjectPropertyDomain r c) = Reach (concept B c)
+PlainStatement B (ObjectPropertyRange r c) = Reach (concept B c)
 PlainStatement B (SameIndividual a b) = Unit {0}
 PlainStatement B (ClassAssertion c i) = Asserted (concept B c)
 PlainStatement B (ObjectPropertyAssertion r a b) = Unit {0}
