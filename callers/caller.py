@@ -3,13 +3,13 @@
 
     callers/caller.py FILE.book    exit status 2 for a wrong usage, or a file that cannot be read
 
-The shared library is target/callers/libsaturation.so; callers/run links it.
+The shared library is target/callers/libzamoluvel.so; callers/run links it.
 """
 import ctypes
 import pathlib
 import sys
 
-LIBRARY = pathlib.Path(__file__).resolve().parent.parent / 'target' / 'callers' / 'libsaturation.so'
+LIBRARY = pathlib.Path(__file__).resolve().parent.parent / 'target' / 'callers' / 'libzamoluvel.so'
 BUDGET, MOST_BYTES = 4000, 65536
 FINISHED, CLASH, SPENT, REFUSED = 0, 1, 2, 100
 EDGES, PAIRS = 0, 1

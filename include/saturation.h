@@ -1,9 +1,9 @@
 /* The conclusions of a book: told facts and rules run to the smallest sets.
  *
- * Link with libsaturation.a (`rt staticlib saturation`). The functions keep nothing between calls, allocate
+ * Link with libzamoluvel.a (`rt staticlib zamoluvel`). The functions keep nothing between calls, allocate
  * nothing and may be called from several threads at once. A call takes some 60 KB of stack for a small book, and
  * up to 5 MB for one of many roles and individuals: a thread needs as much. Each is proved to meet its contract
- * (crates/saturation/src/exports.rt) for whatever bytes, numbers and lists it is given.
+ * (crates/zamoluvel) for whatever bytes, numbers and lists it is given.
  */
 #ifndef ZAMOLUVEL_SATURATION_H
 #define ZAMOLUVEL_SATURATION_H

@@ -2,7 +2,7 @@
 //!
 //! ZAMOLUVEL_RUST: the folder of the given files, from the repository's root; `../shared/docs/src` if unset. They go
 //! by the names of its index, or by their paths in a checkout of rustdl.
-//! ZAMOLUVEL_LIB: the folder of `libsaturation.a`, from the repository's root; unset or empty: built without it.
+//! ZAMOLUVEL_LIB: the folder of `libzamoluvel.a`, from the repository's root; unset or empty: built without it.
 
 use std::path::{Path, PathBuf};
 use std::{env, fs};
@@ -51,9 +51,9 @@ fn main() {
 
     println!("cargo::rustc-check-cfg=cfg(library)");
     if let Some(folder) = folder(root, "ZAMOLUVEL_LIB") {
-        println!("cargo::rerun-if-changed={}", folder.join("libsaturation.a").display());
+        println!("cargo::rerun-if-changed={}", folder.join("libzamoluvel.a").display());
         println!("cargo::rustc-cfg=library");
         println!("cargo::rustc-link-search=native={}", folder.display());
-        println!("cargo::rustc-link-lib=static=saturation");
+        println!("cargo::rustc-link-lib=static=zamoluvel");
     }
 }

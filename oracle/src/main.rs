@@ -179,7 +179,7 @@ fn side(server: &[String]) -> Result<Box<dyn Side>, String> {
     if let Some(program) = server.first() {
         return Ok(Box::new(Server::start(server).map_err(|e| format!("{program}: {e}"))?));
     }
-    Ok(Box::new(Library::new().ok_or("built without libsaturation.a; build it, or name a --server")?))
+    Ok(Box::new(Library::new().ok_or("built without libzamoluvel.a; build it, or name a --server")?))
 }
 
 fn code(disagreements: u64) -> ExitCode {

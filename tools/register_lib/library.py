@@ -9,7 +9,7 @@ import threading
 from collections import namedtuple
 from concurrent.futures import ThreadPoolExecutor
 
-NAME = 'saturation'  # of the crate that it is built from
+NAME = 'zamoluvel'  # of the crate that it is built from
 BUILD = f'rt staticlib {NAME}'
 ARCHIVE = pathlib.Path(__file__).resolve().parent.parent.parent / 'target' / 'staticlib' / f'lib{NAME}.a'
 CC = os.environ.get('CC') or 'cc'

@@ -1,4 +1,3 @@
 -- A run, its open functions, and what they leave.
 pub mod Run
 pub mod Part
-pub mod Exports

@@ -1,7 +1,6 @@
 // The conclusions of a book: told facts and rules run to the smallest sets, and how a run ends.
 mod allot;
 mod enter;
-pub mod exports;
 pub mod part;
 mod run;
 pub mod saturate;

@@ -1,47 +1,35 @@
 use borrow.Author.Needs.{needs}
-use Rattle.saturation.proofs.exports.code_of.Statement.{statement}
-use Rattle.saturation.proofs.exports.code_of.Tie as tie
-use Rattle.saturation.proofs.exports.code_of.Reads as reads
-use Rattle.saturation.proofs.exports.code_of.Lts as lts
+use Rattle.zamoluvel.proofs.run.code_of.Statement.{statement}
+use Rattle.zamoluvel.proofs.run.code_of.Tie as tie
 use mathlib.Core.Path.{refl}
 
--- src/exports.rt:15:35
 enum-told : tie.Need-enum-told
 enum-told c = search needs
 
--- src/exports.rt:16:29
 enum-told-2 : tie.Need-enum-told-2
 enum-told-2 c = search needs
 
--- src/exports.rt:17:23
 enum-told-3 : tie.Need-enum-told-3
 enum-told-3 c = search needs
 
--- src/exports.rt:18:22
 enum-known-end : tie.Need-enum-known-end
 enum-known-end c = search needs
 
--- src/exports.rt:18:35
 cast-result : tie.Need-cast-result
 cast-result c = search needs
 
--- src/exports.rt:18:28
 add-result : tie.Need-add-result
 add-result c = search needs
 
--- src/exports.rt:11:1
 returns : tie.Need-returns
 returns c = search needs
 
--- src/exports.rt:11:1
 returns-2 : tie.Need-returns-2
 returns-2 c = search needs
 
--- src/exports.rt:11:1
 returns-3 : tie.Need-returns-3
 returns-3 c = search needs
 
--- src/exports.rt:11:1
 returns-4 : tie.Need-returns-4
 returns-4 c = rw (c .before .end .given .1) refl
 

@@ -1,11 +1,11 @@
-// The open functions for callers in C and Rust (include/saturation.h). A slice is a pointer and a length.
+// A run, and the named part of a list.
 ghost use mathlib.Core.Path.{_≡_};
 ghost use Rattle.book.specs.Book.{Book, accepted, decode};
 ghost use Rattle.rules.specs.Ends.{outcome};
 ghost use Rattle.rules.specs.Demand.{Demand};
 ghost use Rattle.verdict.specs.Conclude.{endOf, came};
-ghost use Rattle.saturation.specs.Exports.{codeOf, typeCount, edgeCount, pairCount, filledEntries};
-use super::saturate::saturate;
+ghost use Rattle.zamoluvel.specs.Run.{codeOf, typeCount, edgeCount, pairCount, filledEntries};
+use saturation::saturate::saturate;
 use verdict::end::End;
 
 fn code_of(end: End) -> u32

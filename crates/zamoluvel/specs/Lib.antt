@@ -1,0 +1,2 @@
+-- What the functions for callers in C return.
+pub mod Run

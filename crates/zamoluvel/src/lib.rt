@@ -1,0 +1,2 @@
+// The open functions for callers in C and Rust (include/saturation.h), as one library. A slice is a pointer and a length.
+pub mod run; // a run, and the named part of a list
