@@ -1,4 +1,4 @@
-/* The conclusions of a book: told facts and rules run to the smallest sets.
+/* The conclusions of a book, told facts and rules run to the smallest sets; and the book itself, cleaned.
  *
  * Link with libzamoluvel.a (`rt staticlib zamoluvel`). The functions keep nothing between calls, allocate
  * nothing and may be called from several threads at once. A call takes some 60 KB of stack for a small book, and
@@ -59,6 +59,27 @@ uint32_t zamoluvel_saturate(const uint8_t *book, size_t book_len, uint64_t budge
  * Returns 3 * edge_count or 2 * pair_count after ZAMOLUVEL_FINISHED, and 0 at any other end or for another list.
  */
 size_t zamoluvel_named_part(uint32_t end, uint32_t edge_count, uint32_t pair_count, uint32_t named);
+
+/* What zamoluvel_write answers, beside ZAMOLUVEL_REFUSED plus the number of the refusal, 4 to 10 or 12. */
+#define ZAMOLUVEL_WRITTEN 0u
+
+/* Writes a book without the statements that repeat an earlier one in kind and fields; the first of each stays, and the
+ * order. Header counts, concepts and all else stay as they are. A book without repeats comes out byte for byte, a
+ * written book written again comes out the same, and every run of it ends as the original's does, lists included.
+ *
+ *   book, book_len  the bytes of the book, any at all; they are read only
+ *   out, out_len    the bytes that the written book is laid into; no more are needed than the book has
+ *   written         receives the length of the written book; 0 where it is refused. It must not be null.
+ *
+ * The book, the lent bytes and the length must not overlap; of no bytes the pointer may be any that is not null. A
+ * call takes some 200 KB of stack.
+ *
+ * Returns
+ *   ZAMOLUVEL_WRITTEN      the written book stands at the front of the lent bytes; those behind it keep their values
+ *   ZAMOLUVEL_REFUSED + n  refused by number, with every lent byte as it was: 4 to 10 the book, as for a run; 12 the
+ *                          book is accepted, and its written form has more bytes than are lent
+ */
+uint32_t zamoluvel_write(const uint8_t *book, size_t book_len, uint8_t *out, size_t out_len, size_t *written);
 
 #ifdef __cplusplus
 }

@@ -131,3 +131,10 @@ def write(counts, concepts, statements):
     """The bytes of a book from records given as (kind, field, ..); concept and statement counts are theirs."""
     counts = (*counts[:3], len(concepts), len(statements))
     return header(counts) + b''.join(concept(*c) for c in concepts) + b''.join(statement(*s) for s in statements)
+
+
+def cleaned(data):
+    """The bytes of an accepted book without the statements that repeat an earlier one in kind and fields, or Refused."""
+    book = read(data)
+    kept = list(dict.fromkeys((kind, map_, *fields) for kind, map_, fields in book.statements))
+    return write(book.counts, [(kind, *fields) for kind, fields in book.concepts], [(kind, *fields) for kind, _, *fields in kept])

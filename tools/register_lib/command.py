@@ -1,5 +1,6 @@
 """The command line of tools/register."""
 import argparse
+import ctypes
 import pathlib
 import re
 import sys
@@ -24,7 +25,7 @@ default-jdk-headless libowlapi-java). Imports are not fetched; they are counted 
 STATUSES = '''Exit status:
   0  done; for conclude: finished
   1  the file is at fault: syntax, a limit of the book, with --strict an axiom that a book cannot hold;
-     for show: a refused book or names that do not fit it
+     for show and clean: a refused book, for show also names that do not fit it
   2  wrong usage, a file that cannot be read or written, a program that cannot be run or prints something else,
      a library, Java or an OWL API that is not there
   3  conclude: clash, no world fits the register
@@ -46,6 +47,9 @@ program 65,536 bytes. A declared name counts, also where no axiom uses it.
 '''
 SHOWN = '''A book may have an ObjectIntersectionOf or ObjectUnionOf of one part or none. It is shown as it stands and
 packed again as it is shown, but it is not legal OWL, which wants two parts, and OWL editors refuse it.
+'''
+CLEANED = f'''A repeat has the kind and the fields of an earlier statement; the first of each is kept, and nothing else changes,
+so every run of the written book ends as before. The proved library writes it; `{library.BUILD}` builds that.
 '''
 CONCLUDED = SYNTAXES + f'''
 The program target/bin/saturate is run, which keeps at most 4,000 types and edges and lists 2,000 same pairs. With
@@ -110,6 +114,23 @@ def show(args):
     return DONE
 
 
+def clean(args):
+    data = read_bytes(args.file)
+    out = ctypes.create_string_buffer(max(len(data), 1))
+    try:
+        code, length = library.write(data, out)
+    except library.NotBuilt as missing:
+        raise Stop(NOT_RUN, str(missing)) from None
+    if code != library.WRITTEN:
+        number = code - library.REFUSED
+        raise Stop(AT_FAULT, f'{args.file}: refused {number}: {conclusions.CAUSES[number]}')
+    cleaned, target = out.raw[:length], args.out or re.sub(r'\.book$', '', args.file) + '.clean.book'
+    before, after = (f.read(book).counts[f.STATEMENTS] for book in (data, cleaned))
+    write_file(pathlib.Path(target), cleaned)
+    print(f'{target}: {counted(before - after, "statement")} dropped of {before:,}, {counted(length, "byte")}')
+    return DONE
+
+
 def conclude(args):
     packer = packed(args.file, args.strict, MOST_BYTES if args.budget is None else None)
     data = packer.data()
@@ -162,6 +183,8 @@ def arguments():
     made.add_argument('--out', metavar='STEM', help='write STEM.book and STEM.names instead')
     made = command('show', show, 'prints a book in functional-style syntax', SHOWN, file='FILE.book', strict=False)
     made.add_argument('--names', metavar='FILE.names', help='names for the numbers; book:C0, book:R0, book:i0 and so on else')
+    made = command('clean', clean, 'writes a book without the statements that repeat an earlier one', CLEANED, file='FILE.book', strict=False)
+    made.add_argument('-o', '--out', metavar='OUT', help='the file to write; FILE.clean.book else')
     made = command('conclude', conclude, 'packs FILE, runs the book and prints what it concludes, told and derived apart',
                    CONCLUDED).add_mutually_exclusive_group()
     made.add_argument('--budget', metavar='N', type=budget, help='run the library, with a budget of N facts, up to 1000000')

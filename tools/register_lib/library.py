@@ -17,6 +17,7 @@ STACK = 16 << 20  # bytes for a call, of which the header asks for 5 MB at most
 
 MOST_BUDGET = 1000000
 FINISHED, CLASH, SPENT, REFUSED = 0, 1, 2, 100
+WRITTEN = 0
 EDGES, PAIRS = 0, 1
 
 # the end as a number, the three counts, and the three lists at exit, as arrays of c_uint32
@@ -41,6 +42,13 @@ def named_part(end, edge_count, pair_count, named):
     return called('zamoluvel_named_part', end, edge_count, pair_count, named)
 
 
+def write(book, out):
+    """The writer on the bytes of a book, with a buffer of ctypes as the lent bytes: (code, length of the written book)."""
+    length = ctypes.c_size_t()
+    code = called('zamoluvel_write', book, len(book), out, len(out), ctypes.byref(length))
+    return code, length.value
+
+
 def called(function, *args):
     """What a function of the library returns, on a thread with stack enough."""
     with ThreadPoolExecutor(1) as pool:
@@ -62,6 +70,7 @@ def loaded():
     types = {
         'zamoluvel_saturate': (number, ctypes.c_char_p, size, ctypes.c_uint64, *[numbers, size] * 3, *[numbers] * 3),
         'zamoluvel_named_part': (size, *[number] * 4),
+        'zamoluvel_write': (number, ctypes.c_char_p, size, ctypes.c_char_p, size, ctypes.POINTER(size)),
     }
     for name, (result, *args) in types.items():
         if not hasattr(library, name):

@@ -7,11 +7,13 @@ use mathlib.Core.List.{List, [], _∷_, _++_, append-nil}
 use lib.ListN.{length, length-append, List·getD-append}
 use lib.Seq.{getD-at}
 use lib.Dec.{leb}
-use borrow.Author.Tests.{leb-true}
+use borrow.Author.Tests.{leb-true, le-leb}
 use Rattle.book.specs.declared.header.Counts.{Counts}
 use Rattle.book.specs.declared.concept.ConceptExpr.{ConceptExpr}
 use Rattle.book.specs.declared.concept.ConceptExpr.the-variants.{Top, Bot, Atomic, Nominal, SelfRestriction, Not, And, Or, Some, All, Min, Max}
 use Rattle.book.specs.declared.statement.Axiom.{Axiom}
+use Rattle.book.specs.declared.statement.SubRolePath.the-variants.{One, Two, Three}
+use Rattle.book.specs.declared.statement.Axiom.the-variants.{SubClassOf, EquivalentClasses, DisjointClasses, InverseObjectProperties, SubObjectPropertyOf, TransitiveRole, SymmetricRole, FunctionalRole, InverseFunctionalRole, ObjectPropertyDomain, ObjectPropertyRange, SameIndividual, ClassAssertion, ObjectPropertyAssertion}
 use Rattle.book.specs.declared.check.Checked.{Checked}
 use Rattle.book.specs.declared.check.Checked.the-variants as Checked
 use Rattle.book.specs.Read.{Read, value, refusal, several}
@@ -23,10 +25,10 @@ use Rattle.book.specs.Tree.{Concept, none, more, nth, partTrees, treeOf}
 use Rattle.book.specs.Book.{Book, concepts, book, Decoded, accepted, refused, decoded, decode, conceptOffset, checkOf, BookChecked}
 use Rattle.book.specs.Reader.{rest}
 use Rattle.book.specs.Within.{Every, ConceptWithin, Within}
-use Rattle.book.proofs.Parsing.{came, held, same-value, reached}
+use Rattle.book.proofs.Parsing.{came, held, same-value, reached, Forward}
 use Rattle.book.proofs.header.Laws.{header-limits}
 use Rattle.book.proofs.concept.Laws.{concept-within}
-use Rattle.book.proofs.statement.Laws.{statement-within}
+use Rattle.book.proofs.statement.Laws.{statement-within, statement-goes}
 use Rattle.book.proofs.reader.Laws.{rest-several, rest-behind}
 use Rattle.book.proofs.check.Ways.{Concepts as ConceptWalk, oneConcept, unroll-concepts}
 
@@ -118,6 +120,33 @@ several-every s h (suc k) at xs e t = step (several-every s h k at)
         subst (λ (l : List Axiom). Every (Within h) l × (length l ≡ suc k)) (c .0)
         (appended (a .0) (b .0) (old .0) (statement-within s h (a .1) (b .0) (b .1) (b .2)), length-append (a .0) (b .0 ∷ []) ∙ omega (arith, old .1))
 
+-- what keeps to the counts does so whatever the number of statements
+pub within-same : (h : Counts) (m : ℕ) (x : Axiom) → Within h x → Within (record { classes = h .classes; roles = h .roles; individuals = h .individuals; concepts = h .concepts; statements = m }) x
+within-same h m (SubClassOf c d) w = w
+within-same h m (EquivalentClasses c d) w = w
+within-same h m (DisjointClasses c d) w = w
+within-same h m (InverseObjectProperties r s) w = w
+within-same h m (SubObjectPropertyOf (One r) t) w = w
+within-same h m (SubObjectPropertyOf (Two r s) t) w = w
+within-same h m (SubObjectPropertyOf (Three r s u) t) w = w
+within-same h m (TransitiveRole r) w = w
+within-same h m (SymmetricRole r) w = w
+within-same h m (FunctionalRole r) w = w
+within-same h m (InverseFunctionalRole r) w = w
+within-same h m (ObjectPropertyDomain r c) w = w
+within-same h m (ObjectPropertyRange r c) w = w
+within-same h m (SameIndividual i j) w = w
+within-same h m (ClassAssertion c i) w = w
+within-same h m (ObjectPropertyAssertion r i j) w = w
+
+-- a book that is read part by part
+pub decode-of : (w : List ℕ) (B : Book) (at start e : ℕ) → header w 0 ≡ value (B .counts) at → concepts (B .counts) (B .counts .concepts) w at ≡ value (B .concepts) start → several (statement (B .counts)) (B .counts .statements) w start ≡ value (B .statements) e → length w ≤ e → decode w ≡ accepted B
+unfolding decode book
+decode-of w B at start e p q r l = simp (p, q, r, le-leb _ _ l)
+
+pub forward-statement : (h : Counts) → Forward (statement h)
+forward-statement h s at x e l q = let g = statement-goes s h at x e q in (omega (arith, g .0), g .1)
+
 -- the record of concept k of an accepted book
 pub record ConceptRead (s : List ℕ) (b : Book) (k : ℕ) : Type 0 where
   pub expr : ConceptExpr
@@ -128,20 +157,20 @@ pub record ConceptRead (s : List ℕ) (b : Book) (k : ℕ) : Type 0 where
 
 module _ (s : List ℕ) (b : Book) (whole : decode s ≡ accepted b) where
   -- where an accepted book's header, concepts and statements end
-  record Layout : Type 0 where
-    at : ℕ
-    start : ℕ
-    end : ℕ
-    head : header s 0 ≡ value (b .counts) at
-    trees : concepts (b .counts) (b .counts .concepts) s at ≡ value (b .concepts) start
-    list : several (statement (b .counts)) (b .counts .statements) s start ≡ value (b .statements) end
-    ends : length s ≤ end
+  pub record Layout : Type 0 where
+    pub at : ℕ
+    pub start : ℕ
+    pub end : ℕ
+    pub head : header s 0 ≡ value (b .counts) at
+    pub trees : concepts (b .counts) (b .counts .concepts) s at ≡ value (b .concepts) start
+    pub list : several (statement (b .counts)) (b .counts .statements) s start ≡ value (b .statements) end
+    pub ends : length s ≤ end
 
   read-whole : (r : Read Book) → book s 0 ≡ r → decoded r ≡ accepted b → (e : ℕ) × (book s 0 ≡ value b e)
   read-whole (value c e) q t = let x : c ≡ b = cc in (e, q ∙ ap (λ (y : Book). value y e) x)
   read-whole (refusal n) q t = absurd (let z : _≡_ {A = ℕ} 0 1 = cc in omega arith)
 
-  layout : Layout
+  pub layout : Layout
   unfolding decode book
   layout =
       let w = read-whole (book s 0) refl whole in
@@ -170,7 +199,7 @@ module _ (s : List ℕ) (b : Book) (whole : decode s ≡ accepted b) where
   pub accepted-within : Every (Within (b .counts)) (b .statements)
   accepted-within = several-every s (b .counts) (b .counts .statements) (layout .start) (b .statements) (layout .end) (layout .list) .0
 
-  offset-is : (k here : ℕ) (ts : List Concept) → concepts (b .counts) k s (layout .at) ≡ value ts here → conceptOffset s k ≡ here
+  pub offset-is : (k here : ℕ) (ts : List Concept) → concepts (b .counts) k s (layout .at) ≡ value ts here → conceptOffset s k ≡ here
   unfolding conceptOffset
   offset-is k here ts t = simp (layout .head, t)
 

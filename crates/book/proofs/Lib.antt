@@ -2,3 +2,5 @@ pub mod Parsing
 pub mod Past
 pub mod Accepted
 pub mod Examples
+pub mod Bytes
+pub mod Local

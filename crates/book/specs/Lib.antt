@@ -10,3 +10,4 @@ pub mod Tree
 pub mod Book
 pub mod Reader
 pub mod Within
+pub mod Bytes

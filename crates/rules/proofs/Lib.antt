@@ -11,6 +11,7 @@ pub mod Tally
 pub mod Ascending
 pub mod Ended
 pub mod Labels
+pub mod Members
 pub mod Sound
 pub mod SoundClash
 pub mod Complete

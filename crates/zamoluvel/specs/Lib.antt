@@ -1,2 +1,3 @@
 -- What the functions for callers in C return.
 pub mod Run
+pub mod Write

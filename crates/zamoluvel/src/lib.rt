@@ -1,2 +1,3 @@
 // The open functions for callers in C and Rust (include/saturation.h), as one library. A slice is a pointer and a length.
 pub mod run; // a run, and the named part of a list
+pub mod write; // a book cleaned

@@ -1,0 +1,11 @@
+pub mod Examples
+pub mod Repeats
+pub mod Counted
+pub mod Written
+pub mod Digits
+pub mod Ways
+pub mod Entered
+pub mod Matching
+pub mod Going
+pub mod Over
+pub mod Parts

@@ -1,0 +1,44 @@
+-- Which statements stay: each but those that repeat an earlier one in kind and fields.
+use Prim.Native.Nat.{ℕ}
+use mathlib.Core.Path.{_≡_}
+use mathlib.Core.Bool.{Bool, false, not}
+use mathlib.Core.List.{List, [], _∷_, _++_}
+use lib.ListN.{length}
+use Rattle.book.specs.declared.header.Counts.{Counts}
+use Rattle.book.specs.declared.statement.Axiom.{Axiom}
+use Rattle.book.specs.Bytes.{repeats}
+use Rattle.book.specs.Within.{Every}
+use Rattle.book.specs.Book.{Book}
+use Rattle.rules.specs.Lists.{only}
+use Rattle.rules.specs.Rule.{some}
+
+-- those that do not repeat x
+unfoldable pub without : Axiom → List Axiom → List Axiom
+without x [] = []
+without x (y ∷ ys) = only (not (repeats x y)) y ++ without x ys
+
+-- whether y repeats one of them
+abbrev pub repeated : List Axiom → Axiom → Bool
+repeated xs y = some xs λ x. repeats x y
+
+-- the first of each
+unfoldable pub kept : List Axiom → List Axiom
+kept [] = []
+kept (x ∷ xs) = x ∷ without x (kept xs)
+
+-- no statement repeats an earlier one
+abbrev pub Different : List Axiom → Type 0
+Different [] = Unit {0}
+Different (x ∷ xs) = Every (λ y. repeats x y ≡ false) xs × Different xs
+
+-- of the header only the statement count falls
+abbrev pub lowered : Counts → ℕ → Counts
+lowered h n = record { classes = h .classes; roles = h .roles; individuals = h .individuals; concepts = h .concepts; statements = n }
+
+unfoldable pub cleaned : Book → Book
+cleaned B =
+    record {
+      counts = lowered (B .counts) (length (kept (B .statements)));
+      concepts = B .concepts;
+      statements = kept (B .statements);
+    }
