@@ -81,6 +81,19 @@ size_t zamoluvel_named_part(uint32_t end, uint32_t edge_count, uint32_t pair_cou
  */
 uint32_t zamoluvel_write(const uint8_t *book, size_t book_len, uint8_t *out, size_t out_len, size_t *written);
 
+/* A book of the list of every small book: one class, one role, two individuals, the concept Atomic 0 and at most two
+ * statements. There are 1 + 61 + 3,721 of them, fewer statements first, then by their bytes.
+ *
+ *   position      which one, counted from 0; any number
+ *   out, out_len  the lent bytes, any number of them; 37 are enough for every small book. Where there are none, out
+ *                 may be any pointer that is not null.
+ *
+ * Returns the length of the book in bytes, 13 to 37; or 0 where there is none, as the position is past the last
+ * (3,782). The book stands at the front of the lent bytes if all of it fits, that is, if the returned length is at
+ * most out_len; lent bytes behind it keep their values. If it does not fit, or there is none, all keep theirs.
+ */
+size_t zamoluvel_small_book(uint64_t position, uint8_t *out, size_t out_len);
+
 #ifdef __cplusplus
 }
 #endif

@@ -36,6 +36,8 @@ pub const RANGE: u8 = 11;
 pub const SAME: u8 = 12;
 pub const CLASS_ASSERTION: u8 = 13;
 pub const ROLE_ASSERTION: u8 = 14;
+/// The kinds of statements.
+pub const KINDS: std::ops::RangeInclusive<u8> = SUB_CLASS..=ROLE_ASSERTION;
 /// Of each kind of statement, the first of its maps; a path's further maps are 0B and 0F.
 const STATEMENT_MAPS: [u16; 15] =
     [0, 0x30, 0x30, 0x30, 0x03, 0x09, 0x01, 0x01, 0x01, 0x01, 0x11, 0x11, 0xC0, 0x50, 0xC1];
@@ -88,6 +90,14 @@ impl Concept {
 impl Statement {
     pub fn new(kind: u8, fields: &[u16]) -> Self {
         Self { kind, fields: fields.to_vec() }
+    }
+
+    /// How many fields a statement of the kind may have.
+    pub fn field_counts(kind: u8) -> Vec<usize> {
+        match kind {
+            SUB_ROLE => vec![2, 3, 4],
+            _ => vec![STATEMENT_MAPS[kind as usize].count_ones() as usize],
+        }
     }
 
     fn map(&self) -> u16 {
@@ -185,7 +195,7 @@ impl Book {
     fn read_statement(&self, cursor: &mut Cursor, concepts: usize) -> Result<Statement, String> {
         let (kind, map) = (cursor.number(1)? as u8, cursor.number(2)? as u16);
         let mut statement = Statement::new(kind, &vec![0; map.count_ones() as usize]);
-        if !(1..=14).contains(&kind) || statement.map() != map {
+        if !KINDS.contains(&kind) || statement.map() != map {
             return Err(format!("a statement has kind {kind} with map {map:02x}"));
         }
         for i in 0..statement.fields.len() {

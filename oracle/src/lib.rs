@@ -13,6 +13,7 @@ pub mod random;
 pub mod record;
 pub mod rust;
 pub mod shrink;
+pub mod small;
 mod supplied;
 pub mod words;
 

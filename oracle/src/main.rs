@@ -4,6 +4,8 @@
 //!         random books through both sides; the last line counts how many were compared fully, partly and not, and
 //!         the disagreements; column `turned` counts the books with a statement that is turned round for the Rust (see
 //!         rust.rs). Ours is the linked library, or the process that COMMAND starts (see ours.rs).
+//!     oracle small [--server COMMAND ..]
+//!         the same for every small book (see small.rs)
 //!     oracle book PROFILE SEED PLACE
 //!         one random book in hexadecimal
 //!     oracle answer BOOK [RUNS]
@@ -14,6 +16,8 @@
 //!         the rule of comparison under which the book falls
 //!     oracle record FILE
 //!         writes the recorded answers (see record.rs)
+//!     oracle record-small FILE
+//!         writes those to the small books (see small.rs)
 //!     oracle replay FILE [--server COMMAND ..]
 //!         runs our side on the recorded books and compares
 
@@ -24,7 +28,7 @@ use oracle::ours::{Library, Server, Side};
 use oracle::profile::{Profile, PROFILES};
 use oracle::record::{self, Record};
 use oracle::words::{hex, unhex};
-use oracle::{rust, shrink};
+use oracle::{rust, shrink, small};
 use std::collections::BTreeMap;
 use std::process::{Command, ExitCode};
 use std::time::Instant;
@@ -89,6 +93,40 @@ impl Tally {
         self.disagreements += other.disagreements;
     }
 
+    /// Runs the book on both sides and counts it; where they disagree, why.
+    fn judge(&mut self, book: &Book, side: &mut dyn Side) -> Option<String> {
+        let ours = side.run(book);
+        self.books += 1;
+        self.clashes += u64::from(matches!(ours, oracle::ours::End::Clash { .. }));
+        self.turned += u64::from(rust::turns(book));
+        match compare(book, &ours) {
+            Verdict::Fully(Rule::OneFiller) => self.one_filler += 1,
+            Verdict::Fully(_) => self.nothing_brought += 1,
+            Verdict::Partly { alike } => {
+                self.partly += 1;
+                self.alike += u64::from(alike);
+            }
+            Verdict::Not => self.not += 1,
+            Verdict::Disagreement(why) => {
+                self.disagreements += 1;
+                return Some(why);
+            }
+        }
+        None
+    }
+
+    fn summary(&self, start: Instant) -> String {
+        format!(
+            "{} accepted books in {:.0} s: {} compared fully, {} partly, {} not; {} disagreements",
+            self.books,
+            start.elapsed().as_secs_f64(),
+            self.fully(),
+            self.partly,
+            self.not,
+            self.disagreements
+        )
+    }
+
     fn line(&self, name: &str) -> String {
         format!(
             "{name:>8} {:>8} {:>10} {:>10} {:>8} {:>8} {:>6} {:>8} {:>6} {:>6}",
@@ -116,17 +154,21 @@ fn show(book: &Book, why: &str, side: &mut dyn Side) {
     println!("ours: {}\nthe Rust: {}\n", side.run(&small), rust::run(&small));
 }
 
+fn print_head() {
+    println!("         {:>8} {:>21} {:>17}", "", "compared fully", "compared partly");
+    println!(
+        " profile {:>8} {:>10} {:>10} {:>8} {:>8} {:>6} {:>8} {:>6} {:>6}",
+        "books", "one filler", "no bring", "", "alike", "not", "clashes", "turned", "disagr"
+    );
+}
+
 fn compare_books(options: &Options, side: &mut dyn Side) -> Tally {
     let start = Instant::now();
     let profiles: Vec<Profile> =
         PROFILES.into_iter().filter(|p| options.profile.is_none_or(|only| only == *p)).collect();
     let whole: u64 = profiles.iter().map(|p| p.share() as u64).sum();
     let mut all = Tally::default();
-    println!("         {:>8} {:>21} {:>17}", "", "compared fully", "compared partly");
-    println!(
-        " profile {:>8} {:>10} {:>10} {:>8} {:>8} {:>6} {:>8} {:>6} {:>6}",
-        "books", "one filler", "no bring", "", "alike", "not", "clashes", "turned", "disagr"
-    );
+    print_head();
     for (at, profile) in profiles.iter().enumerate() {
         let mut tally = Tally::default();
         let last = at + 1 == profiles.len();
@@ -138,23 +180,9 @@ fn compare_books(options: &Options, side: &mut dyn Side) -> Tally {
                 Ok(&book),
                 "a random book is accepted, and read as it was written"
             );
-            let ours = side.run(&book);
-            tally.books += 1;
-            tally.clashes += u64::from(matches!(ours, oracle::ours::End::Clash { .. }));
-            tally.turned += u64::from(rust::turns(&book));
-            match compare(&book, &ours) {
-                Verdict::Fully(Rule::OneFiller) => tally.one_filler += 1,
-                Verdict::Fully(_) => tally.nothing_brought += 1,
-                Verdict::Partly { alike } => {
-                    tally.partly += 1;
-                    tally.alike += u64::from(alike);
-                }
-                Verdict::Not => tally.not += 1,
-                Verdict::Disagreement(why) => {
-                    tally.disagreements += 1;
-                    if all.disagreements + tally.disagreements <= SHOWN {
-                        show(&book, &format!("{} {} {place}: {why}", profile.name(), options.seed), side);
-                    }
+            if let Some(why) = tally.judge(&book, side) {
+                if all.disagreements + tally.disagreements <= SHOWN {
+                    show(&book, &format!("{} {} {place}: {why}", profile.name(), options.seed), side);
                 }
             }
         }
@@ -162,15 +190,7 @@ fn compare_books(options: &Options, side: &mut dyn Side) -> Tally {
         all.add(&tally);
     }
     println!("{}", all.line("all"));
-    println!(
-        "{} accepted books in {:.0} s: {} compared fully, {} partly, {} not; {} disagreements",
-        all.books,
-        start.elapsed().as_secs_f64(),
-        all.fully(),
-        all.partly,
-        all.not,
-        all.disagreements
-    );
+    println!("{}", all.summary(start));
     all
 }
 
@@ -194,6 +214,28 @@ fn run_compare(words: &[String]) -> Result<ExitCode, String> {
     let options = options(words)?;
     let tally = compare_books(&options, side(&options.server)?.as_mut());
     Ok(code(tally.disagreements))
+}
+
+fn run_small(words: &[String]) -> Result<ExitCode, String> {
+    let (start, mut tally, mut side) = (Instant::now(), Tally::default(), side(&options(words)?.server)?);
+    print_head();
+    for (place, book) in small::books().iter().enumerate() {
+        if let Some(why) = tally.judge(book, side.as_mut()) {
+            if tally.disagreements <= SHOWN {
+                show(book, &format!("small {place}: {why}"), side.as_mut());
+            }
+        }
+    }
+    println!("{}\n{}", tally.line("small"), tally.summary(start));
+    Ok(code(tally.disagreements))
+}
+
+fn run_record_small(file: &str) -> Result<ExitCode, String> {
+    let records = small::records();
+    let data: Vec<u8> = records.iter().flat_map(|&(rule, answer)| [rule as u8 + 1, answer]).collect();
+    std::fs::write(file, &data).map_err(|e| format!("{file}: {e}"))?;
+    println!("{} records, {} bytes", records.len(), data.len());
+    Ok(ExitCode::SUCCESS)
 }
 
 fn run_record(file: &str) -> Result<ExitCode, String> {
@@ -265,6 +307,8 @@ fn run(words: &[String]) -> Result<ExitCode, String> {
         Some("compare") => run_compare(&words[1..]),
         Some("answer") if words.len() > 1 => run_answer(&words[1..]),
         Some("record") if words.len() == 2 => run_record(&words[1]),
+        Some("small") => run_small(&words[1..]),
+        Some("record-small") if words.len() == 2 => run_record_small(&words[1]),
         Some("replay") if words.len() > 1 => run_replay(&words[1], &words[2..]),
         Some("as-written") if words.len() == 2 => {
             let book = named_book(&words[1])?;
@@ -281,7 +325,7 @@ fn run(words: &[String]) -> Result<ExitCode, String> {
             println!("{}", hex(&generate::book(profile, seed?, place?).bytes()));
             Ok(ExitCode::SUCCESS)
         }
-        _ => Err("usage: oracle compare | book | answer | as-written | rule | record | replay; see oracle/src/main.rs"
+        _ => Err("usage: oracle compare | small | book | answer | as-written | rule | record | record-small | replay; see oracle/src/main.rs"
             .into()),
     }
 }

@@ -31,7 +31,7 @@ pub struct Record {
 }
 
 /// The Rust's answer, or, where it depends on the run, all that came in some run.
-fn answer(book: &Book, rule: Rule) -> Answer {
+pub fn answer(book: &Book, rule: Rule) -> Answer {
     let mut all = rust::run(book);
     for _ in 1..if rule == Rule::Other { RUNS } else { 1 } {
         let next = rust::run(book);

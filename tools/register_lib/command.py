@@ -51,6 +51,9 @@ packed again as it is shown, but it is not legal OWL, which wants two parts, and
 CLEANED = f'''A repeat has the kind and the fields of an earlier statement; the first of each is kept, and nothing else changes,
 so every run of the written book ends as before. The proved library writes it; `{library.BUILD}` builds that.
 '''
+SMALL = f'''The books with one class, one role, two individuals, the concept Atomic 0 and at most two statements: 3,783 of
+them, fewer statements first, then by bytes. The proved library makes them; `{library.BUILD}` builds that.
+'''
 CONCLUDED = SYNTAXES + f'''
 The program target/bin/saturate is run, which keeps at most 4,000 types and edges and lists 2,000 same pairs. With
 --budget the proved library is run instead, with lists of the size that is needed; `{library.BUILD}` builds it.
@@ -131,6 +134,26 @@ def clean(args):
     return DONE
 
 
+def small(args):
+    """The small book at a position, shown, or all of them as files."""
+    try:
+        if args.all is None:
+            book = library.small_book(args.position)
+            if book is None:
+                raise Stop(AT_FAULT, f'there is no small book at position {args.position:,}')
+            print(f'# position {args.position}: {book.hex()}')
+            print(Writer(f.read(book), names.unnamed(f.read(book).counts)).show(), end='')
+            return DONE
+        position, folder = 0, pathlib.Path(args.all)
+        while book := library.small_book(position):
+            write_file(folder / f'{position:04}.book', book)
+            position += 1
+    except library.NotBuilt as missing:
+        raise Stop(NOT_RUN, str(missing)) from None
+    print(f'{folder}: {counted(position, "book")}')
+    return DONE
+
+
 def conclude(args):
     packer = packed(args.file, args.strict, MOST_BYTES if args.budget is None else None)
     data = packer.data()
@@ -167,11 +190,19 @@ def budget(text):
     return int(text)
 
 
+def position(text):
+    """A position on the command line."""
+    if not re.fullmatch('[0-9]{1,19}', text):
+        raise argparse.ArgumentTypeError(f'{text} is no position')
+    return int(text)
+
+
 def arguments():
     def command(name, run, what, about='', file='FILE', strict=True):
         made = commands.add_parser(name, help=what, description=f'{what}.\n\n{about}', epilog=STATUSES,
                                    formatter_class=argparse.RawDescriptionHelpFormatter)
-        made.add_argument('file', metavar=file)
+        if file:
+            made.add_argument('file', metavar=file)
         made.set_defaults(run=run)
         if strict:
             made.add_argument('--strict', action='store_true', help='refuse the file at the first axiom that a book cannot hold')
@@ -185,6 +216,10 @@ def arguments():
     made.add_argument('--names', metavar='FILE.names', help='names for the numbers; book:C0, book:R0, book:i0 and so on else')
     made = command('clean', clean, 'writes a book without the statements that repeat an earlier one', CLEANED, file='FILE.book', strict=False)
     made.add_argument('-o', '--out', metavar='OUT', help='the file to write; FILE.clean.book else')
+    made = command('small', small, 'shows a book of the list of every small book, or writes all of them', SMALL, file=None, strict=False)
+    made = made.add_mutually_exclusive_group(required=True)
+    made.add_argument('position', metavar='POSITION', type=position, nargs='?', help='which one, counted from 0')
+    made.add_argument('--all', metavar='DIR', help='write each as DIR/POSITION.book')
     made = command('conclude', conclude, 'packs FILE, runs the book and prints what it concludes, told and derived apart',
                    CONCLUDED).add_mutually_exclusive_group()
     made.add_argument('--budget', metavar='N', type=budget, help='run the library, with a budget of N facts, up to 1000000')

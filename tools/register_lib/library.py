@@ -18,6 +18,7 @@ STACK = 16 << 20  # bytes for a call, of which the header asks for 5 MB at most
 MOST_BUDGET = 1000000
 FINISHED, CLASH, SPENT, REFUSED = 0, 1, 2, 100
 WRITTEN = 0
+MOST_SMALL = 37  # bytes of a small book
 EDGES, PAIRS = 0, 1
 
 # the end as a number, the three counts, and the three lists at exit, as arrays of c_uint32
@@ -49,6 +50,13 @@ def write(book, out):
     return code, length.value
 
 
+def small_book(position):
+    """The bytes of the small book at a position, or None past the last."""
+    out = ctypes.create_string_buffer(MOST_SMALL)
+    length = called('zamoluvel_small_book', position, out, len(out))
+    return out.raw[:length] if length else None
+
+
 def called(function, *args):
     """What a function of the library returns, on a thread with stack enough."""
     with ThreadPoolExecutor(1) as pool:
@@ -70,6 +78,7 @@ def loaded():
     types = {
         'zamoluvel_saturate': (number, ctypes.c_char_p, size, ctypes.c_uint64, *[numbers, size] * 3, *[numbers] * 3),
         'zamoluvel_named_part': (size, *[number] * 4),
+        'zamoluvel_small_book': (size, ctypes.c_uint64, ctypes.c_char_p, size),
         'zamoluvel_write': (number, ctypes.c_char_p, size, ctypes.c_char_p, size, ctypes.POINTER(size)),
     }
     for name, (result, *args) in types.items():
