@@ -161,8 +161,31 @@ fn nested() -> Book {
     book
 }
 
+/// Ands of an Atomic and the And before, 3,840 deep, from a has-value on; 256 classes are under the last, told of 64 individuals.
+fn nested_sides() -> Book {
+    let mut book = empty(256, 1, 64);
+    let nominal = book.concept(book::NOMINAL, &[0]);
+    let mut inner = book.concept(book::SOME, &[P, nominal]);
+    (0..3837).for_each(|k| inner = book.concept(book::AND, &[k % 256, inner]));
+    (0..256).for_each(|c| book.tell(book::SUB_CLASS, &[c, inner]));
+    (0..64).for_each(|i| book.tell(book::CLASS_ASSERTION, &[i, i]));
+    book
+}
+
+/// Ands as above, 2,000 deep, each of them told of an individual.
+fn nested_each() -> Book {
+    let mut book = empty(256, 1, 512);
+    let nominal = book.concept(book::NOMINAL, &[0]);
+    let mut inner = book.concept(book::SOME, &[P, nominal]);
+    for k in 0..2000 {
+        inner = book.concept(book::AND, &[k % 256, inner]);
+        book.tell(book::CLASS_ASSERTION, &[inner, k % 512]);
+    }
+    book
+}
+
 /// n nested Ands of two equal parts each: 2^n parts as a tree.
-pub fn shared(n: u16) -> Book {
+fn shared(n: u16) -> Book {
     let mut book = empty(1, 0, 1);
     let mut inner = 0;
     (0..n).for_each(|_| inner = book.concept(book::AND, &[inner, inner]));
@@ -200,6 +223,8 @@ pub fn all() -> Vec<Named> {
         one("inverse paths through 30 roles", inverse_paths()),
         Named { name: "10,000 tiny books".into(), books: tiny() },
         one("nested conjunctions, 3,840 deep", nested()),
+        one("256 left sides over one, 3,837 deep", nested_sides()),
+        one("2,000 nested conjunctions, each told", nested_each()),
         one("shared conjunctions, 20 deep", shared(20)),
         one("near 1,000,000 facts", near_a_million()),
     ]

@@ -197,12 +197,6 @@ fn tables(options: &Options) {
     growth("subclasses, 64 individuals", &sizes, options.runs, |n| books::subclasses(n, 64));
     growth("role assertions, 512 individuals", &sizes, options.runs, books::assertions);
     growth("paths of two, 64 roles, 64 individuals", &sizes, options.runs, books::paths_of_two);
-
-    println!("\nConjunctions of two equal parts, nested:");
-    head("depth", &COLUMNS.map(String::from));
-    for n in (10..=24).step_by(2) {
-        row(&n.to_string(), &[books::shared(n)], options);
-    }
 }
 
 fn main() -> ExitCode {

@@ -11,7 +11,7 @@
 //!     oracle answer BOOK [RUNS]
 //!         the book in words and the Rust's answer, over RUNS runs of the process if given; BOOK is a file or hexadecimal
 //!     oracle as-written BOOK
-//!         the same, where no statement is turned round for the Rust
+//!         the same, where nothing is turned round or flattened for the Rust
 //!     oracle rule BOOK
 //!         the rule of comparison under which the book falls
 //!     oracle record FILE

@@ -1,7 +1,7 @@
 //! The Rust's answer to a book.
 
 use crate::abox_saturation::{saturate_with, ChainDedupe};
-use crate::book::{self, Book, Statement};
+use crate::book::{self, Book, Concept, Sort, Statement};
 use crate::ir::{ClassId, ConceptExpr, ConceptId, ConceptPool, IndividualId, Role, RoleId};
 use crate::ontology::{Axiom, InternalOntology, SubRolePath, Vocabulary};
 use std::fmt;
@@ -57,9 +57,42 @@ pub fn turns(book: &Book) -> bool {
     })
 }
 
-/// The book as the Rust is handed it, with inverse roles on the left turned round.
+/// The parts of an And and of the Ands among them, each once. A part has a lower number than its whole.
+fn leaves(concepts: &[Concept], and: u16) -> Vec<u16> {
+    let (mut due, mut seen, mut out) = (vec![and], vec![false; and as usize + 1], vec![]);
+    while let Some(c) = due.pop() {
+        if concepts[c as usize].kind != book::AND {
+            out.push(c);
+            continue;
+        }
+        for &part in concepts[c as usize].fields.iter().rev() {
+            if !std::mem::replace(&mut seen[part as usize], true) {
+                due.push(part);
+            }
+        }
+    }
+    out
+}
+
+/// Of a right side, a domain and a range the Rust reads the direct parts alone. Each And that a statement names is
+/// flattened.
+fn flatten(book: &mut Book) {
+    let named = |s: &Statement| -> Vec<u16> {
+        (0..s.fields.len()).filter(|&i| s.sort(i) == Sort::Concept).map(|i| s.fields[i]).collect()
+    };
+    let mut due: Vec<u16> = book.statements.iter().flat_map(named).collect();
+    due.sort_unstable();
+    due.dedup();
+    due.retain(|&c| book.concepts[c as usize].kind == book::AND);
+    for c in due {
+        book.concepts[c as usize].fields = leaves(&book.concepts, c);
+    }
+}
+
+/// The book as the Rust is handed it, with inverse roles on the left turned round and conjunctions flattened.
 pub fn ontology(mut book: Book) -> InternalOntology {
     book.statements.iter_mut().for_each(turn);
+    flatten(&mut book);
     as_written(&book)
 }
 

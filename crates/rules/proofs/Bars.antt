@@ -20,7 +20,7 @@ use Rattle.book.specs.Tree.{partTrees}
 use Rattle.book.specs.Book.{Book, concepts, book, Decoded, refused, accepted, decode}
 use Rattle.rules.specs.Fact.{edge, type}
 use Rattle.rules.specs.Rule.{Set, Rule, keep, when, each, both, Obeys, yields}
-use Rattle.rules.specs.Brought.{atomics, directAtomics, values, markers}
+use Rattle.rules.specs.Brought.{atomics, values, markers}
 use Rattle.rules.specs.ToldSame.{labels, label, same}
 use Rattle.rules.specs.Meaning.{rules, conclusions}
 use Rattle.rules.specs.Same.{samePair}
@@ -200,7 +200,7 @@ all-hold (b ∷ bs) e = let a = and-both (test b) (tests bs) e in (bar-holds b (
 
 -- the table
 tests-come-out : tests bars ≡ true
-unfolding test bars plainBar roleOf several byte twoBytes fourBytes field fieldsFrom fields statementAllows header conceptStart partList bound conceptTail conceptRest concept statementStart pathOf axiomOf statementRest statement partTrees concepts book decode edge type atomics directAtomics values markers labels label same rules samePair marked typeClash markerClash clashes types edges pairs used outcomeFrom
+unfolding test bars plainBar roleOf several byte twoBytes fourBytes field fieldsFrom fields statementAllows header conceptStart partList bound conceptTail conceptRest concept statementStart pathOf axiomOf statementRest statement partTrees concepts book decode edge type atomics values markers labels label same rules samePair marked typeClash markerClash clashes types edges pairs used outcomeFrom
 tests-come-out = refl
 
 pub table : Every Holds bars
@@ -208,7 +208,7 @@ table = all-hold bars tests-come-out
 
 -- one row by itself
 plain-test : test plainBar ≡ true
-unfolding test plainBar roleOf several byte twoBytes fourBytes field fieldsFrom fields statementAllows header conceptStart partList bound conceptTail conceptRest concept statementStart pathOf axiomOf statementRest statement partTrees concepts book decode edge type atomics directAtomics values markers labels label same rules samePair marked typeClash markerClash clashes types edges pairs used outcomeFrom
+unfolding test plainBar roleOf several byte twoBytes fourBytes field fieldsFrom fields statementAllows header conceptStart partList bound conceptTail conceptRest concept statementStart pathOf axiomOf statementRest statement partTrees concepts book decode edge type atomics values markers labels label same rules samePair marked typeClash markerClash clashes types edges pairs used outcomeFrom
 plain-test = refl
 
 pub plain-holds : Holds plainBar

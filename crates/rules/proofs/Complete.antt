@@ -19,12 +19,12 @@ use Rattle.book.specs.declared.role.Role.{Role}
 use Rattle.book.specs.declared.role.Role.the-variants.{Named, Inverse}
 use Rattle.rules.specs.Fact.{edge, type, two}
 use Rattle.rules.specs.Rule.{Set, Rule, Obeys}
-use Rattle.rules.specs.Brought.{concept, Value, from, leaves, leavesIn, listed, parts, atomicOf, valueOf, atomics, directAtomics, values}
+use Rattle.rules.specs.Brought.{concept, Value, from, leaves, leavesIn, atomicOf, valueOf, atomics, values}
 use Rattle.rules.specs.ToldSame.{sameBy, label, same}
-use Rattle.rules.specs.Meaning.{bring, swap, under, share, ruleOf, rules, conclusions}
+use Rattle.rules.specs.Meaning.{told, bring, swap, under, share, ruleOf, rules, conclusions}
 use Rattle.rules.specs.Clash.{disjointBy, disjoint, typeClash, markerClash, clashes}
 use Rattle.rules.specs.World.{World, Thing, leads, Leads, Of, OfAll, Under, Apart, PathUnder, True, Fits, TypeTrue, EdgeTrue}
-use Rattle.rules.specs.Plain.{IsAtomic, anAtomic, Simple, simpleAtomic, simpleTop, simpleValue, Each, eachNone, eachMore, Right, rightSimple, rightAnd, Asserted, assertedSimple, assertedAnd, AllAsserted, assertedNone, assertedMore, Reach, reachAtomic, reachAnd, PlainStatement, Plain}
+use Rattle.rules.specs.Plain.{IsAtomic, anAtomic, Simple, simpleAtomic, simpleTop, simpleValue, Nested, nestedOne, nestedAnd, AllNested, nestedNone, nestedMore, Right, Reach, PlainStatement, Plain}
 use Rattle.rules.proofs.Tests.{false-true, or-none, any-none, some-none, and-intro, every-map, every-and, every-left, every-right, every-swap, from-every}
 use Rattle.rules.proofs.Least.{obeys-every, obeys-given}
 use Rattle.rules.proofs.Facts.{edge-named, edge-flipped}
@@ -158,92 +158,56 @@ module _ (B : Book) (inside : Inside B) where
   abbrev AValue : ℕ → Value → Type 0
   AValue x v = (RoleWithin h (v .role) × (v .to < n)) × (S (edge (v .role) x (v .to)) ≡ true)
 
-  simple-of : (x : ℕ) → x < n → (e : Concept) → Simple e → Every (AClass x) (atomicOf e) → Every (AValue x) (valueOf e) → Of W e x
-  simple-of x l e (simpleAtomic c) p q = of-type x c (p .0)
-  simple-of x l e simpleTop p q = tt
-  simple-of x l e (simpleValue ρ b) p q =
-      λ none-there. none-there (W .ind b) (W .ind-thing b) (of-edge ρ x (W .ind b) (edge-to ρ x x b (W .ind b) (q .0 .0 .0) l l (q .0 .0 .1) (label-lt b (q .0 .0 .1)) refl (label-same b (q .0 .0 .1)) (q .0 .1))) refl
-
-  simple-leaf : (P : Concept → Type 0) (e : Concept) → Simple e → Every P (leaves e) → P e
-  simple-leaf P e (simpleAtomic c) p = p .0
-  simple-leaf P e simpleTop p = p .0
-  simple-leaf P e (simpleValue ρ b) p = p .0
-
-  simple-part : (P : Concept → Type 0) (e : Concept) → Simple e → Every P (parts e) → P e
-  simple-part P e (simpleAtomic c) p = p .0
-  simple-part P e simpleTop p = p .0
-  simple-part P e (simpleValue ρ b) p = p .0
-
   abbrev Classes : ℕ → Concept → Type 0
-  Classes x l = Every (AClass x) (atomicOf l)
+  Classes x e = Every (AClass x) (atomicOf e)
 
   abbrev Values : ℕ → Concept → Type 0
-  Values x l = Every (AValue x) (valueOf l)
+  Values x e = Every (AValue x) (valueOf e)
 
-  each-of : (x : ℕ) → x < n → (es : Concepts) → Each Simple es → Every (Classes x) (listed es) → Every (Values x) (leavesIn es) → OfAll W es x
-  each-of x l es eachNone p q = tt
-  each-of x l es (eachMore {e = e} {es = fs} s r) p q = (simple-of x l e s (p .0) (simple-leaf (Values x) e s (every-left (Values x) (leaves e) (leavesIn fs) q)), each-of x l fs r (p .1) (every-right (Values x) (leaves e) (leavesIn fs) q))
+  -- so x is of the expression, if each of its leaves is of a kind for which that is enough
+  module _ (P Q : Concept → Type 0) (x : ℕ) (one : (e : Concept) → P e → Every Q (leaves e) → Of W e x) where
+    mutual
+      nested-of : (e : Concept) → Nested P e → Every Q (leaves e) → Of W e x
+      nested-of e (nestedOne s) q = one e s q
+      nested-of e (nestedAnd {es = es} a) q = all-of es a q
 
-  right-of : (x : ℕ) → x < n → (e : Concept) → Right e → Every (AClass x) (directAtomics e) → Every (AValue x) (values e) → Of W e x
-  unfolding directAtomics values
-  right-of x l e r p q = go e r (from-every (AClass x) atomicOf (parts e) p) (from-every (AValue x) valueOf (leaves e) q)
-    where
-      go : (e : Concept) → Right e → Every (Classes x) (parts e) → Every (Values x) (leaves e) → Of W e x
-      go e (rightSimple s) p q = simple-of x l e s (simple-part (Classes x) e s p) (simple-leaf (Values x) e s q)
-      go e (rightAnd {es = es} s) p q = each-of x l es s p q
+      all-of : (es : Concepts) → AllNested P es → Every Q (leavesIn es) → OfAll W es x
+      all-of es nestedNone q = tt
+      all-of es (nestedMore {e = e} {es = fs} a r) q = (nested-of e a (every-left Q (leaves e) (leavesIn fs) q), all-of fs r (every-right Q (leaves e) (leavesIn fs) q))
 
-  mutual
-    nested-of : (x : ℕ) → x < n → (e : Concept) → Asserted e → Every (Classes x) (leaves e) → Every (Values x) (leaves e) → Of W e x
-    nested-of x l e (assertedSimple s) p q = simple-of x l e s (simple-leaf (Classes x) e s p) (simple-leaf (Values x) e s q)
-    nested-of x l e (assertedAnd {es = es} a) p q = all-of x l es a p q
+  simple-of : (x : ℕ) → x < n → (e : Concept) → Simple e → Every (λ l. Classes x l × Values x l) (leaves e) → Of W e x
+  simple-of x l e (simpleAtomic c) q = of-type x c (q .0 .0 .0)
+  simple-of x l e simpleTop q = tt
+  simple-of x l e (simpleValue ρ b) q =
+      let v = q .0 .1 .0 in
+      λ none-there. none-there (W .ind b) (W .ind-thing b) (of-edge ρ x (W .ind b) (edge-to ρ x x b (W .ind b) (v .0 .0) l l (v .0 .1) (label-lt b (v .0 .1)) refl (label-same b (v .0 .1)) (v .1))) refl
 
-    all-of : (x : ℕ) → x < n → (es : Concepts) → AllAsserted es → Every (Classes x) (leavesIn es) → Every (Values x) (leavesIn es) → OfAll W es x
-    all-of x l es assertedNone p q = tt
-    all-of x l es (assertedMore {e = e} {es = fs} a r) p q = (
-      nested-of x l e a (every-left (Classes x) (leaves e) (leavesIn fs) p) (every-left (Values x) (leaves e) (leavesIn fs) q),
-      all-of x l fs r (every-right (Classes x) (leaves e) (leavesIn fs) p) (every-right (Values x) (leaves e) (leavesIn fs) q),
-    )
-
-  asserted-of : (x : ℕ) → x < n → (e : Concept) → Asserted e → Every (AClass x) (atomics e) → Every (AValue x) (values e) → Of W e x
+  right-of : (x : ℕ) → x < n → (e : Concept) → Right e → Every (AClass x) (atomics e) → Every (AValue x) (values e) → Of W e x
   unfolding atomics values
-  asserted-of x l e a p q = nested-of x l e a (from-every (AClass x) atomicOf (leaves e) p) (from-every (AValue x) valueOf (leaves e) q)
+  right-of x l e r p q = nested-of Simple (λ l. Classes x l × Values x l) x (simple-of x l) e r (every-and (Classes x) (Values x) (leaves e) (from-every (AClass x) atomicOf (leaves e) p) (from-every (AValue x) valueOf (leaves e) q))
 
-  atomic-of : (x : ℕ) (e : Concept) → IsAtomic e → Classes x e → Of W e x
-  atomic-of x e (anAtomic c) p = of-type x c (p .0)
+  atomic-of : (x : ℕ) (e : Concept) → IsAtomic e → Every (Classes x) (leaves e) → Of W e x
+  atomic-of x e (anAtomic c) p = of-type x c (p .0 .0)
 
-  reach-of : (x : ℕ) (e : Concept) → Reach e → Every (AClass x) (directAtomics e) → Of W e x
-  unfolding directAtomics
-  reach-of x e r p = go e r (from-every (AClass x) atomicOf (parts e) p)
-    where
-      part : (e : Concept) → IsAtomic e → Every (Classes x) (parts e) → Classes x e
-      part e (anAtomic c) p = p .0
-
-      all : (es : Concepts) → Each IsAtomic es → Every (Classes x) (listed es) → OfAll W es x
-      all es eachNone p = tt
-      all es (eachMore {e = e} {es = fs} a r) p = (atomic-of x e a (p .0), all fs r (p .1))
-
-      go : (e : Concept) → Reach e → Every (Classes x) (parts e) → Of W e x
-      go e (reachAtomic a) p = atomic-of x e a (part e a p)
-      go e (reachAnd {es = es} a) p = all es a p
-
-  -- the left side of a plain statement
-  left : (P : ℕ → Type 0) (e : Concept) → IsAtomic e → ((c : ℕ) → e ≡ Atomic c → P c) → Every P (atomicOf e)
-  left P e (anAtomic c) f = (f c refl, tt)
+  reach-of : (x : ℕ) (e : Concept) → Reach e → Every (AClass x) (atomics e) → Of W e x
+  unfolding atomics
+  reach-of x e r p = nested-of IsAtomic (Classes x) x (atomic-of x) e r (from-every (AClass x) atomicOf (leaves e) p)
 
   values-in : (e : Concept) → ConceptIn h e → Every (λ (v : Value). RoleWithin h (v .role) × (v .to < n)) (values e)
   values-in e k = values-have (ConceptIn h) (listed-in h) (λ (v : Value). RoleWithin h (v .role) × (v .to < n)) (λ r b i. i) e k
 
-  sub-true : (l r : Concept) → IsAtomic l → ConceptIn h l → ConceptIn h r → ((x : ℕ) → x < n → Every (AClass x) (directAtomics r) → Every (AValue x) (values r) → Of W r x) → Obeys (bring n l r) S → Under W l r
-  sub-true l r (anAtomic c) k m f o x tx g =
-      let i = type-own x c k (to-type x c g) in
-      f x i (every-map _ (AClass x) (λ d p. p x i (to-type x c g)) (directAtomics r) (obeys-every S _ (directAtomics r) (o .0 .0)))
-      (every-map _ (AValue x) (λ v p. (p .0, p .1 x i (to-type x c g))) (values r) (every-and _ _ (values r) (values-in r m) (obeys-every S _ (values r) (o .0 .1))))
+  -- what a plain assertion tells is enough
+  told-of : (x : ℕ) → x < n → (e : Concept) → Right e → ConceptIn h e → Obeys (told x e) S → Of W e x
+  told-of x l e r k o = right-of x l e r (obeys-every S _ (atomics e) (o .0)) (every-and _ _ (values e) (values-in e k) (obeys-every S _ (values e) (o .1)))
 
   right-true : (c d : ℕ) → IsAtomic (concept B c) → Right (concept B d) → Obeys (bring n (concept B c) (concept B d)) S → Under W (concept B c) (concept B d)
-  right-true c d a r o = sub-true (concept B c) (concept B d) a (inside .concepts c) (inside .concepts d) (λ x l p q. right-of x l (concept B d) r p q) o
+  right-true c d a r o = go (concept B c) a (inside .concepts c) o
+    where
+      go : (l : Concept) → IsAtomic l → ConceptIn h l → Obeys (bring n l (concept B d)) S → Under W l (concept B d)
+      go l (anAtomic u) k o x tx g = let e = to-type x u g in let i = type-own x u k e in told-of x i (concept B d) r (inside .concepts d) (o .0 x i e)
 
   atomic-right : (e : Concept) → IsAtomic e → Right e
-  atomic-right e (anAtomic c) = rightSimple (simpleAtomic c)
+  atomic-right e (anAtomic c) = nestedOne (simpleAtomic c)
 
   apart-true : (c d : ℕ) → IsAtomic (concept B c) → IsAtomic (concept B d) → ((x : ℕ) → x < n → Every (λ p. (S (type x (p .one)) && S (type x (p .other))) ≡ false) (disjointBy B (DisjointClasses c d))) → Apart W (concept B c) (concept B d)
   apart-true c d a b calm = go (concept B c) (concept B d) a b (inside .concepts c) calm
@@ -288,14 +252,14 @@ module _ (B : Book) (inside : Inside B) where
   plain-true (ObjectPropertyDomain ρ c) p w k t o = λ x y tx ty l.
       let e = to-edge ρ x y l in
       let i = edge-own ρ x y (w .0) tx ty e in
-      reach-of x (concept B c) p (every-map _ (AClass x) (λ d f. f x (i .0) y (i .1) e) (directAtomics (concept B c)) (obeys-every S _ (directAtomics (concept B c)) o))
+      reach-of x (concept B c) p (every-map _ (AClass x) (λ d f. f x (i .0) y (i .1) e) (atomics (concept B c)) (obeys-every S _ (atomics (concept B c)) o))
   plain-true (ObjectPropertyRange ρ c) p w k t o = λ x y tx ty l.
       let e = to-edge ρ x y l in
       let i = edge-own ρ x y (w .0) tx ty e in
-      reach-of y (concept B c) p (every-map _ (AClass y) (λ d f. f x (i .0) y (i .1) e) (directAtomics (concept B c)) (obeys-every S _ (directAtomics (concept B c)) o))
+      reach-of y (concept B c) p (every-map _ (AClass y) (λ d f. f x (i .0) y (i .1) e) (atomics (concept B c)) (obeys-every S _ (atomics (concept B c)) o))
   plain-true (SameIndividual a b) p w k t o = ind-is a (w .0) ∙ (t .0 ∙ sym (ind-is b (w .1)))
   plain-true (ClassAssertion c i) p w k t o =
-      asserted-of (W .ind i) (label-lt i (w .1)) (concept B c) p
+      right-of (W .ind i) (label-lt i (w .1)) (concept B c) p
       (every-map _ (AClass (W .ind i)) (λ d f. type-to i (W .ind i) d (w .1) (label-lt i (w .1)) (f .0) (label-same i (w .1)) (f .1)) (atomics (concept B c)) (every-and _ _ (atomics (concept B c)) (atomics-in B inside c) (obeys-every S _ (atomics (concept B c)) (o .0))))
       (every-map _ (AValue (W .ind i)) (λ v f. (f .0, edge-to (v .role) i (W .ind i) (v .to) (v .to) (f .0 .0) (w .1) (label-lt i (w .1)) (f .0 .1) (f .0 .1) (label-same i (w .1)) refl (f .1))) (values (concept B c)) (every-and _ _ (values (concept B c)) (values-in (concept B c) (inside .concepts c)) (obeys-every S _ (values (concept B c)) (o .1))))
   plain-true (ObjectPropertyAssertion ρ a b) p w k t o =

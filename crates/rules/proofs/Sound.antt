@@ -16,18 +16,18 @@ use Rattle.book.specs.declared.role.Role.{Role}
 use Rattle.book.specs.declared.role.Role.the-variants.{Named, Inverse}
 use Rattle.rules.specs.Fact.{setOf, edge, type}
 use Rattle.rules.specs.Rule.{Set, Rule, Obeys}
-use Rattle.rules.specs.Brought.{concept, Value, listed, atomicOf, atomics, directAtomics, values}
+use Rattle.rules.specs.Brought.{concept, Value, listed, atomicOf, atomics, values}
 use Rattle.rules.specs.ToldSame.{sameBy, same}
-use Rattle.rules.specs.Meaning.{brings, bring, swap, under, merge, share, ruleOf, rules, conclusions}
+use Rattle.rules.specs.Meaning.{told, brings, bring, swap, under, merge, share, ruleOf, rules, conclusions}
 use Rattle.rules.specs.World.{World, Thing, leads, Leads, Of, Under, PathUnder, OneFiller, True, Fits}
 use Rattle.rules.specs.Applied.{In}
 use Rattle.rules.proofs.Tests.{stable, every-map, every-zip, every-and, every-from}
 use Rattle.rules.proofs.Least.{every-obeys, given-obeys}
 use Rattle.rules.proofs.Facts.{tested, set-edge, set-type}
-use Rattle.rules.proofs.Reading.{atomicOf-have, atomics-have, directAtomics-have, values-have}
+use Rattle.rules.proofs.Reading.{atomicOf-have, atomics-have, values-have}
 use Rattle.rules.proofs.Inside.{ConceptIn, Inside}
 use Rattle.rules.proofs.Labels.{Related, same-smallest}
-use Rattle.rules.proofs.Conclusions.{conclusions-least, atomics-in, directAtomics-in, values-in}
+use Rattle.rules.proofs.Conclusions.{conclusions-least, atomics-in, values-in}
 
 -- the facts that are true in a world
 unfoldable pub truth : World → Set
@@ -96,25 +96,24 @@ module _ (W : World) where
     atomic-in c d e = subst (ConceptIn h) (sym e) (inside .concepts c)
 
     module _ (G : ℕ → Type 0) (c : ℕ) (all : Each G (concept B c)) where
-      all-direct : Every (λ d. (d < h .classes) × AllClass G d) (directAtomics (concept B c))
-      all-direct = every-and (λ d. d < h .classes) (AllClass G) (directAtomics (concept B c)) (directAtomics-in B inside c) (directAtomics-have (Each G) (all-parts G) (AllClass G) (λ d k. k) (concept B c) all)
-
       all-atomics : Every (λ d. (d < h .classes) × AllClass G d) (atomics (concept B c))
       all-atomics = every-and (λ d. d < h .classes) (AllClass G) (atomics (concept B c)) (atomics-in B inside c) (atomics-have (Each G) (all-parts G) (AllClass G) (λ d k. k) (concept B c) all)
 
       all-values : Every (λ (v : Value). (RoleWithin h (v .role) × (v .to < n)) × AllValue G v) (values (concept B c))
       all-values = every-and (λ (v : Value). RoleWithin h (v .role) × (v .to < n)) (AllValue G) (values (concept B c)) (values-in B inside c) (values-have (Each G) (all-parts G) (AllValue G) (λ ρ b k x t g. value-true ρ b x (k x t g)) (concept B c) all)
 
+      -- so what an assertion of it tells of an individual is true where G holds of its thing
+      told-true : (i : ℕ) → i < n → G (W .ind i) → Obeys (told i (concept B c)) (truth W)
+      told-true i k g = (
+        every-obeys (truth W) _ (atomics (concept B c)) (every-map _ _ (λ d l. of-class i d (l .0) (l .1 (W .ind i) (W .ind-thing i) g)) (atomics (concept B c)) all-atomics),
+        every-obeys (truth W) _ (values (concept B c)) (every-map _ _ (λ v l. of-leads (v .role) i (v .to) (l .0 .0) k (l .0 .1) (l .1 (W .ind i) (W .ind-thing i) g)) (values (concept B c)) all-values),
+      )
+
     bring-true : (c d : ℕ) → Under W (concept B c) (concept B d) → Obeys (bring n (concept B c) (concept B d)) (truth W)
     bring-true c d u = every-obeys (truth W) (λ a. brings n a (concept B d)) (atomicOf (concept B c)) (every-map _ _ one (atomicOf (concept B c)) (atomicOf-is (concept B c)))
       where
         one : (a : ℕ) → Atomic a ≡ concept B c → Obeys (brings n a (concept B d)) (truth W)
-        one a e =
-            let G : ℕ → Type 0 = λ x. W .cls a x ≡ true in
-            let up : Each G (concept B d) = λ x t g. u x t (subst (λ (k : Concept). Of W k x) e g) in (
-              every-obeys (truth W) _ (directAtomics (concept B d)) (every-map _ _ (λ k l i m p. of-class i k (l .0) (l .1 (W .ind i) (W .ind-thing i) (to-class i a (atomic-in c a e) p))) (directAtomics (concept B d)) (all-direct G d up)),
-              every-obeys (truth W) _ (values (concept B d)) (every-map _ _ (λ v l i m p. of-leads (v .role) i (v .to) (l .0 .0) m (l .0 .1) (l .1 (W .ind i) (W .ind-thing i) (to-class i a (atomic-in c a e) p))) (values (concept B d)) (all-values G d up)),
-            )
+        one a e i k p = told-true (λ x. W .cls a x ≡ true) d (λ x t g. u x t (subst (λ (k : Concept). Of W k x) e g)) i k (to-class i a (atomic-in c a e) p)
 
     swap-true : (ρ σ : Role) → RoleWithin h ρ → RoleWithin h σ → ((x y : ℕ) → Thing W x → Thing W y → Leads W ρ x y → Leads W σ y x) → Obeys (swap n ρ σ) (truth W)
     swap-true ρ σ i j u a k b l e = of-leads σ b a j l k (u _ _ (W .ind-thing a) (W .ind-thing b) (to-leads ρ a b i k l e))
@@ -140,42 +139,37 @@ module _ (W : World) where
     ruleOf-true (InverseFunctionalRole ρ) w t = merge-true (flipped ρ) (flipped-within ρ w) t
     ruleOf-true (ObjectPropertyDomain ρ c) w t =
         let G : ℕ → Type 0 = λ x. (y : ℕ) × Thing W y × Leads W ρ x y in
-        every-obeys (truth W) _ (directAtomics (concept B c))
-        (every-map _ _ (λ d l a i b j e. of-class a d (l .0) (l .1 (W .ind a) (W .ind-thing a) (W .ind b, W .ind-thing b, to-leads ρ a b (w .0) i j e))) (directAtomics (concept B c)) (all-direct G c (λ x tx g. t x (g .0) tx (g .1) (g .2))))
+        every-obeys (truth W) _ (atomics (concept B c))
+        (every-map _ _ (λ d l a i b j e. of-class a d (l .0) (l .1 (W .ind a) (W .ind-thing a) (W .ind b, W .ind-thing b, to-leads ρ a b (w .0) i j e))) (atomics (concept B c)) (all-atomics G c (λ x tx g. t x (g .0) tx (g .1) (g .2))))
     ruleOf-true (ObjectPropertyRange ρ c) w t =
         let G : ℕ → Type 0 = λ y. (x : ℕ) × Thing W x × Leads W ρ x y in
-        every-obeys (truth W) _ (directAtomics (concept B c))
-        (every-map _ _ (λ d l a i b j e. of-class b d (l .0) (l .1 (W .ind b) (W .ind-thing b) (W .ind a, W .ind-thing a, to-leads ρ a b (w .0) i j e))) (directAtomics (concept B c)) (all-direct G c (λ y ty g. t (g .0) y (g .1) ty (g .2))))
+        every-obeys (truth W) _ (atomics (concept B c))
+        (every-map _ _ (λ d l a i b j e. of-class b d (l .0) (l .1 (W .ind b) (W .ind-thing b) (W .ind a, W .ind-thing a, to-leads ρ a b (w .0) i j e))) (atomics (concept B c)) (all-atomics G c (λ y ty g. t (g .0) y (g .1) ty (g .2))))
     ruleOf-true (SameIndividual a b) w t = λ k l. absurd (omega arith)
-    ruleOf-true (ClassAssertion c i) w t =
-        let G : ℕ → Type 0 = λ x. x ≡ W .ind i in
-        let up : Each G (concept B c) = λ x tx g. subst (λ (y : ℕ). Of W (concept B c) y) (sym g) t in (
-          every-obeys (truth W) _ (atomics (concept B c)) (every-map _ _ (λ d l. of-class i d (l .0) (l .1 (W .ind i) (W .ind-thing i) refl)) (atomics (concept B c)) (all-atomics G c up)),
-          every-obeys (truth W) _ (values (concept B c)) (every-map _ _ (λ v l. of-leads (v .role) i (v .to) (l .0 .0) (w .1) (l .0 .1) (l .1 (W .ind i) (W .ind-thing i) refl)) (values (concept B c)) (all-values G c up)),
-        )
+    ruleOf-true (ClassAssertion c i) w t = told-true (λ x. x ≡ W .ind i) c (λ x tx g. subst (λ (y : ℕ). Of W (concept B c) y) (sym g) t) i (w .1) refl
     ruleOf-true (ObjectPropertyAssertion ρ a b) w t = of-leads ρ a b (w .0) (w .1) (w .2) t
 
     -- the pairs that a true statement tells are one thing each
-    told-true : (s : Axiom) → True W B s → Every (Related (λ i j. W .ind i ≡ W .ind j)) (sameBy s)
-    told-true (SubClassOf c d) t = tt
-    told-true (EquivalentClasses c d) t = tt
-    told-true (DisjointClasses c d) t = tt
-    told-true (InverseObjectProperties ρ σ) t = tt
-    told-true (SubObjectPropertyOf p τ) t = tt
-    told-true (TransitiveRole ρ) t = tt
-    told-true (SymmetricRole ρ) t = tt
-    told-true (FunctionalRole ρ) t = tt
-    told-true (InverseFunctionalRole ρ) t = tt
-    told-true (ObjectPropertyDomain ρ c) t = tt
-    told-true (ObjectPropertyRange ρ c) t = tt
-    told-true (SameIndividual a b) t = (t, tt)
-    told-true (ClassAssertion c i) t = tt
-    told-true (ObjectPropertyAssertion ρ a b) t = tt
+    same-told : (s : Axiom) → True W B s → Every (Related (λ i j. W .ind i ≡ W .ind j)) (sameBy s)
+    same-told (SubClassOf c d) t = tt
+    same-told (EquivalentClasses c d) t = tt
+    same-told (DisjointClasses c d) t = tt
+    same-told (InverseObjectProperties ρ σ) t = tt
+    same-told (SubObjectPropertyOf p τ) t = tt
+    same-told (TransitiveRole ρ) t = tt
+    same-told (SymmetricRole ρ) t = tt
+    same-told (FunctionalRole ρ) t = tt
+    same-told (InverseFunctionalRole ρ) t = tt
+    same-told (ObjectPropertyDomain ρ c) t = tt
+    same-told (ObjectPropertyRange ρ c) t = tt
+    same-told (SameIndividual a b) t = (t, tt)
+    same-told (ClassAssertion c i) t = tt
+    same-told (ObjectPropertyAssertion ρ a b) t = tt
 
     module _ (fits : Fits W B) where
       pub same-true : (i j : ℕ) → same B i j ≡ true → W .ind i ≡ W .ind j
       unfolding Fits
-      same-true = same-smallest B (λ i j. W .ind i ≡ W .ind j) (λ i j k e f. e ∙ f) (λ i j e. sym e) (λ i. refl) (every-from (True W B) _ sameBy told-true (B .statements) fits)
+      same-true = same-smallest B (λ i j. W .ind i ≡ W .ind j) (λ i j k e f. e ∙ f) (λ i j e. sym e) (λ i. refl) (every-from (True W B) _ sameBy same-told (B .statements) fits)
 
       share-true : (i j : ℕ) → i < n → j < n → W .ind i ≡ W .ind j → Obeys (share n (h .classes) (h .roles) i j) (truth W)
       share-true i j k l q = (

@@ -15,7 +15,7 @@ use Rattle.book.specs.declared.role.Role.the-variants.{Named, Inverse}
 use Rattle.book.specs.declared.statement.SubRolePath.the-variants.{One}
 use Rattle.book.specs.declared.statement.Axiom.the-variants.{SubClassOf, EquivalentClasses, DisjointClasses, SubObjectPropertyOf, ObjectPropertyDomain, SameIndividual, ClassAssertion, ObjectPropertyAssertion}
 use Rattle.rules.specs.Ends.{Finished, Outcome, outcome}
-use Rattle.rules.specs.Plain.{anAtomic, simpleAtomic, simpleTop, simpleValue, eachNone, eachMore, rightAnd, assertedSimple, assertedAnd, assertedNone, assertedMore, reachAtomic, Plain}
+use Rattle.rules.specs.Plain.{anAtomic, simpleAtomic, simpleTop, simpleValue, nestedOne, nestedAnd, nestedNone, nestedMore, Plain}
 use Rattle.rules.specs.Demand.{UnlistedFalse}
 use Rattle.rules.specs.Bars.{nines, plainBar}
 use Rattle.rules.proofs.Bars.{plain-holds}
@@ -23,16 +23,19 @@ use Rattle.rules.proofs.Demand.{demand}
 
 abbrev pub B : Book
 B = record {
-  counts = record { classes = 4; roles = 2; individuals = 3; concepts = 10; statements = 8 };
+  counts = record { classes = 4; roles = 2; individuals = 3; concepts = 13; statements = 8 };
   concepts =
       Atomic 0 ∷ Atomic 1 ∷ Atomic 2 ∷ Atomic 3 ∷ Top ∷ Nominal 2 ∷ Some (Named 1) (Nominal 2)
-      ∷ And (more (Atomic 1) (more Top (more (Some (Named 1) (Nominal 2)) none)))
+      ∷ And (more Top (more (Some (Named 1) (Nominal 2)) none))
+      ∷ And (more (Atomic 1) (more (And (more Top (more (Some (Named 1) (Nominal 2)) none))) none))
       ∷ And (more (Atomic 0) none)
       ∷ And (more (And (more (Atomic 0) none)) (more Top none))
+      ∷ And (more (Atomic 2) none)
+      ∷ And (more (And (more (Atomic 2) none)) none)
       ∷ [];
   statements =
-      SubClassOf 0 7 ∷ EquivalentClasses 1 2 ∷ DisjointClasses 0 3 ∷ SubObjectPropertyOf (One (Inverse 0)) (Named 1) ∷ ObjectPropertyDomain (Inverse 0) 2
-      ∷ SameIndividual 0 1 ∷ ClassAssertion 9 0 ∷ ObjectPropertyAssertion (Named 0) 0 2 ∷ [];
+      SubClassOf 0 8 ∷ EquivalentClasses 1 2 ∷ DisjointClasses 0 3 ∷ SubObjectPropertyOf (One (Inverse 0)) (Named 1) ∷ ObjectPropertyDomain (Inverse 0) 12
+      ∷ SameIndividual 0 1 ∷ ClassAssertion 10 0 ∷ ObjectPropertyAssertion (Named 0) 0 2 ∷ [];
 }
 
 decodes : decode (plainBar .book) ≡ accepted B
@@ -42,7 +45,7 @@ decodes = refl
 plain : Plain B
 unfolding Plain
 plain = (
-  (anAtomic 0, rightAnd (eachMore (simpleAtomic 1) (eachMore simpleTop (eachMore (simpleValue (Named 1) 2) eachNone)))),
+  (anAtomic 0, nestedAnd (nestedMore (nestedOne (simpleAtomic 1)) (nestedMore (nestedAnd (nestedMore (nestedOne simpleTop) (nestedMore (nestedOne (simpleValue (Named 1) 2)) nestedNone))) nestedNone))),
   (
     (anAtomic 1, anAtomic 2),
     (
@@ -50,11 +53,11 @@ plain = (
       (
         tt,
         (
-          reachAtomic (anAtomic 2),
+          nestedAnd (nestedMore (nestedAnd (nestedMore (nestedOne (anAtomic 2)) nestedNone)) nestedNone),
           (
             tt,
             (
-              assertedAnd (assertedMore (assertedAnd (assertedMore (assertedSimple (simpleAtomic 0)) assertedNone)) (assertedMore (assertedSimple simpleTop) assertedNone)),
+              nestedAnd (nestedMore (nestedAnd (nestedMore (nestedOne (simpleAtomic 0)) nestedNone)) (nestedMore (nestedOne simpleTop) nestedNone)),
               (tt, tt),
             ),
           ),

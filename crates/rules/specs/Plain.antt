@@ -17,30 +17,23 @@ pub data Simple : Concept → Type 0 where
   simpleTop : Simple Top
   simpleValue : (r : Role) (b : ℕ) → Simple (Some r (Nominal b))
 
--- all parts are of a kind
-pub data Each (P : Concept → Type 0) : Concepts → Type 0 where
-  eachNone : Each P none
-  eachMore : {e : Concept} {es : Concepts} → P e → Each P es → Each P (more e es)
-
--- a right side of SubClassOf: one of the three, or an And of them
-pub data Right : Concept → Type 0 where
-  rightSimple : {e : Concept} → Simple e → Right e
-  rightAnd : {es : Concepts} → Each Simple es → Right (And es)
-
--- an assertion: the same, and the And may nest
+-- of a kind, or an And of such, at any depth (request No. 5)
 mutual
-  pub data Asserted : Concept → Type 0 where
-    assertedSimple : {e : Concept} → Simple e → Asserted e
-    assertedAnd : {es : Concepts} → AllAsserted es → Asserted (And es)
+  pub data Nested (P : Concept → Type 0) : Concept → Type 0 where
+    nestedOne : {e : Concept} → P e → Nested P e
+    nestedAnd : {es : Concepts} → AllNested P es → Nested P (And es)
 
-  pub data AllAsserted : Concepts → Type 0 where
-    assertedNone : AllAsserted none
-    assertedMore : {e : Concept} {es : Concepts} → Asserted e → AllAsserted es → AllAsserted (more e es)
+  pub data AllNested (P : Concept → Type 0) : Concepts → Type 0 where
+    nestedNone : AllNested P none
+    nestedMore : {e : Concept} {es : Concepts} → Nested P e → AllNested P es → AllNested P (more e es)
 
--- a domain or range: Atomic, or an And of Atomics
-pub data Reach : Concept → Type 0 where
-  reachAtomic : {e : Concept} → IsAtomic e → Reach e
-  reachAnd : {es : Concepts} → Each IsAtomic es → Reach (And es)
+-- a right side of SubClassOf, or an assertion
+abbrev pub Right : Concept → Type 0
+Right = Nested Simple
+
+-- a domain or range
+abbrev pub Reach : Concept → Type 0
+Reach = Nested IsAtomic
 
 -- left sides are Atomic, Equivalent and Disjoint stand between Atomics, and no role is functional; paths, domains and ranges may be of either
 -- polarity (request No. 2)
@@ -57,7 +50,7 @@ PlainStatement B (InverseFunctionalRole r) = ⊥
 PlainStatement B (ObjectPropertyDomain r c) = Reach (concept B c)
 PlainStatement B (ObjectPropertyRange r c) = Reach (concept B c)
 PlainStatement B (SameIndividual a b) = Unit {0}
-PlainStatement B (ClassAssertion c i) = Asserted (concept B c)
+PlainStatement B (ClassAssertion c i) = Right (concept B c)
 PlainStatement B (ObjectPropertyAssertion r a b) = Unit {0}
 
 unfoldable pub Plain : Book → Type 0

@@ -1,3 +1,4 @@
 -- A run, its open functions, and what they leave.
+pub mod Told
 pub mod Run
 pub mod Part

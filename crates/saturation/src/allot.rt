@@ -54,7 +54,8 @@ fn small(
 {
     let mut t = [0u64; 512];
     let mut supers = [0u64; 64];
-    let mut marks = [0u64; 512];
+    let mut takers = [0u64; 512];
+    let mut asserted = [0u64; 512];
     let mut above = [0u64; 64];
     let mut domains = [0u64; 64];
     let mut chains = [0u8; 256];
@@ -75,7 +76,8 @@ fn small(
         pairs,
         &mut t,
         &mut supers,
-        &mut marks,
+        &mut takers,
+        &mut asserted,
         &mut above,
         &mut domains,
         &mut chains,
@@ -108,7 +110,8 @@ fn large(
     ensures { λ r. ⌜ came r (now (types .exit)) (now (edges .exit)) (now (pairs .exit)) ≡ outcome (now (book .entry)) budget (now (types .entry)) (now (edges .entry)) (now (pairs .entry)) ⌝ }
 {
     let mut supers = [0u64; 2048];
-    let mut marks = [0u64; 16384];
+    let mut takers = [0u64; 32768];
+    let mut asserted = [0u64; 32768];
     let mut above = [0u64; 1024];
     let mut domains = [0u64; 1024];
     let mut chains = [0u8; 16384];
@@ -129,7 +132,8 @@ fn large(
         pairs,
         t,
         &mut supers,
-        &mut marks,
+        &mut takers,
+        &mut asserted,
         &mut above,
         &mut domains,
         &mut chains,

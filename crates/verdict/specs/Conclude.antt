@@ -43,5 +43,5 @@ abbrev pub finishing : Size → List ℕ → List ℕ → List ℕ → List ℕ 
 finishing z t F ts es ps = pick (ltb (length ps) (2 * length (samePairs z t F))) (cleared ts es ps (Refused 11)) (listed z t F ts es ps)
 
 unfoldable pub concluded : Size → List ℕ → List ℕ → List ℕ → ℕ → List ℕ → List ℕ → List ℕ → List ℕ → List ℕ → Outcome
-concluded z t M L n J F ts es ps =
-    pick (clashIn z t M L n J F) (cleared ts es ps (Clash (length (typesOf z t)) (length (allEdges z t)))) (finishing z t F ts es ps)
+concluded z t T L n J F ts es ps =
+    pick (clashIn z t T L n J F) (cleared ts es ps (Clash (length (typesOf z t)) (length (allEdges z t)))) (finishing z t F ts es ps)

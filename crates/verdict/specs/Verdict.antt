@@ -1,5 +1,5 @@
 -- Clash, of a table (src/verdict.rt).
-use Prim.Native.Nat.{ℕ, _+_, _-_, _*_, _/_, _<_, _≤_}
+use Prim.Native.Nat.{ℕ, _-_, _*_, _/_, _<_}
 use mathlib.Core.Path.{_≡_}
 use mathlib.Core.Bool.{Bool, true, false, not, _&&_, _||_}
 use mathlib.Core.List.{List}
@@ -10,7 +10,6 @@ use Rattle.rows.specs.declared.table.Size.{Size}
 use Rattle.rows.specs.Table.{leads}
 use Rattle.rules.specs.Rule.{any, some}
 use Rattle.tables.specs.Leaf.{markerIn}
-use Rattle.tables.specs.Parts.{marks}
 
 -- whether a number below n passes both tests
 abbrev pub meeting : ℕ → (ℕ → Bool) → (ℕ → Bool) → Bool
@@ -31,19 +30,19 @@ rowsClash n m dis own M = any m λ c. rowClash n m dis own M c
 abbrev pub markerFor : ℕ → ℕ → ℕ → Bool
 markerFor r d x = some (markerIn x) λ k. eqb (k .role) r && eqb (k .class) d
 
--- whether class c, of whose marked concepts there are at most k, brings the marker (r, d)
+-- whether class c takes one of the first n concepts whose leaf is the marker (r, d)
 abbrev pub bringsMarker : List ℕ → List ℕ → ℕ → ℕ → ℕ → ℕ → Bool
-bringsMarker ms L k r c d = any k λ j. marks ms (8 * c) j && markerFor r d (getD L j 0)
+bringsMarker takers L n r c d = any n λ k. has takers k c && markerFor r d (getD L k 0)
 
 -- whether one of the first m classes brings i the marker (r, d)
 abbrev pub markerRow : Size → List ℕ → List ℕ → List ℕ → ℕ → ℕ → ℕ → ℕ → ℕ → Bool
-markerRow z t ms L k r m d i = any m λ c. leads z t (z .fields - 1) c i && bringsMarker ms L k r c d
+markerRow z t takers L n r m d i = any m λ c. leads z t (z .fields - 1) c i && bringsMarker takers L n r c d
 
 -- the clash of a table: of classes; or of the markers of a role that is functional as named
 unfoldable pub clashIn : Size → List ℕ → List ℕ → List ℕ → ℕ → List ℕ → List ℕ → Bool
-clashIn z t ms L k dis fun =
+clashIn z t takers L n dis fun =
     rowsClash (z .individuals) (z .classes) dis true (λ c i. leads z t (z .fields - 1) c i)
-    || any (z .fields / 2 - 1) (λ r. has fun 0 (2 * r) && rowsClash (z .individuals) (z .classes) dis false (markerRow z t ms L k r (z .classes)))
+    || any (z .fields / 2 - 1) (λ r. has fun 0 (2 * r) && rowsClash (z .individuals) (z .classes) dis false (markerRow z t takers L n r (z .classes)))
 
 -- the rows of v are those of u with, in row d, the numbers that pass f d
 pub record RowsWith (u : List ℕ) (f : ℕ → ℕ → Bool) (v : List ℕ) : Type 0 where

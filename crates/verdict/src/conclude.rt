@@ -61,7 +61,7 @@ fn finish(
 pub fn conclude(
     t: &[u64],
     size: Size,
-    marks: &[u64],
+    takers: &[u64],
     leaves: &[u32],
     n: usize,
     disjoint: &[u64],
@@ -74,13 +74,13 @@ pub fn conclude(
 ) -> End
     requires { ⌜ Table size (now t) ⌝ }
     requires { ⌜ Blank (now p) ⌝ }
-    requires { ⌜ (n ≤ length (now leaves)) × (n ≤ 4096) × (size .classes * 64 ≤ length (now marks)) × (size .classes * 8 ≤ length (now disjoint)) × (8 ≤ length (now functional)) × (size .individuals * 8 ≤ length (now p)) ⌝ }
+    requires { ⌜ (n ≤ length (now leaves)) × (n ≤ 4096) × (n * 8 ≤ length (now takers)) × (size .classes * 8 ≤ length (now disjoint)) × (8 ≤ length (now functional)) × (size .individuals * 8 ≤ length (now p)) ⌝ }
     requires { ⌜ used ≡ length (typesOf size (now t)) + length (allEdges size (now t)) ⌝ }
     requires { ⌜ (2 * length (typesOf size (now t)) ≤ length (now types)) × (3 * length (allEdges size (now t)) ≤ length (now edges)) ⌝ }
-    ensures { λ r. ⌜ came r (now (types .exit)) (now (edges .exit)) (now (pairs .exit)) ≡ concluded size (now (t .entry)) (now (marks .entry)) (now (leaves .entry)) n (now (disjoint .entry)) (now (functional .entry)) (now (types .entry)) (now (edges .entry)) (now (pairs .entry)) ⌝ }
+    ensures { λ r. ⌜ came r (now (types .exit)) (now (edges .exit)) (now (pairs .exit)) ≡ concluded size (now (t .entry)) (now (takers .entry)) (now (leaves .entry)) n (now (disjoint .entry)) (now (functional .entry)) (now (types .entry)) (now (edges .entry)) (now (pairs .entry)) ⌝ }
 {
     let count = list_types(types, t, size) as u32;
-    if clash(t, size, marks, leaves, n, disjoint, functional) {
+    if clash(t, size, takers, leaves, n, disjoint, functional) {
         clear_all(types, edges, pairs);
         return End::Clash(count, used - count);
     }

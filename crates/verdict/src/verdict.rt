@@ -2,17 +2,17 @@
 ghost use mathlib.Core.Path.{_≡_};
 ghost use mathlib.Core.Bool.{true, false, _&&_};
 ghost use Prim.Native.Nat.{_+_, _-_, _*_, _/_, _≤_, _<_};
-ghost use lib.ListN.{length};
+ghost use lib.ListN.{length, getD};
 ghost use Rattle.rows.specs.Row.{has};
 ghost use Rattle.rows.specs.Table.{leads, Sized, Table};
 ghost use Rattle.rules.specs.Rule.{any};
-ghost use Rattle.verdict.specs.Verdict.{meeting, counting, rowClash, rowsClash, markerFor, bringsMarker, markerRow, clashIn, RowsWith};
+ghost use Rattle.verdict.specs.Verdict.{meeting, counting, rowClash, rowsClash, markerFor, markerRow, clashIn, RowsWith};
+use rows::row::compose;
 use rows::row::gather;
 use rows::row::meets;
 use rows::row::member;
 use rows::row::next;
 use rows::table::Size;
-use rows::table::row_of;
 use rows::table::rows_of;
 use tables::leaf::filler_in;
 use tables::leaf::is_marker;
@@ -88,58 +88,35 @@ fn rows_clash(s: &[u64], base: usize, size: Size, disjoint: &[u64], own: bool) -
     false
 }
 
-// The individuals of the row mask have the marker of the leaf x, if x is one under role r: into the row of its class.
-fn put_marker(markers: &mut [u64], mask: &[u64], r: usize, x: u32)
-    requires { ⌜ (length (now markers) ≡ 2048) × (8 ≤ length (now mask)) ⌝ }
-    ensures { λ _. ⌜ RowsWith (now (markers .entry)) (λ d i. markerFor r d x && has (now (mask .entry)) 0 i) (now (markers .exit)) ⌝ }
-{
-    if is_marker(x) {
-        if role_in(x) == r {
-            gather(markers, filler_in(x), mask, 0);
-        }
-    }
-}
-
-// The individuals of the row mask have the markers under role r that class c brings.
-fn put_markers(
-    markers: &mut [u64],
-    mask: &[u64],
-    marks: &[u64],
-    leaves: &[u32],
-    n: usize,
-    r: usize,
-    c: usize,
-)
-    requires { ⌜ (n ≤ length (now leaves)) × (n ≤ 4096) × (c * 64 + 64 ≤ length (now marks)) ⌝ }
-    requires { ⌜ (length (now markers) ≡ 2048) × (8 ≤ length (now mask)) ⌝ }
-    ensures { λ _. ⌜ RowsWith (now (markers .entry)) (λ d i. has (now (mask .entry)) 0 i && bringsMarker (now (marks .entry)) (now (leaves .entry)) n r c d) (now (markers .exit)) ⌝ }
-{
-    let mut k = next(marks, 8 * c, 0, n);
-    while k < n {
-        put_marker(markers, mask, r, leaves[k]);
-        k = next(marks, 8 * c, k + 1, n);
-    }
-}
-
-// The markers under role r that class c brings.
-fn class_markers(
+// What is of a class that takes concept k has the marker of its leaf, if that is one under role r: into the row of the marker's class.
+fn put_marker(
     markers: &mut [u64],
     t: &[u64],
     size: Size,
-    marks: &[u64],
+    takers: &[u64],
     leaves: &[u32],
-    n: usize,
+    k: usize,
     r: usize,
-    c: usize,
 )
     requires { ⌜ Table size (now t) ⌝ }
-    requires { ⌜ (n ≤ length (now leaves)) × (n ≤ 4096) × (size .classes * 64 ≤ length (now marks)) ⌝ }
-    requires { ⌜ (length (now markers) ≡ 2048) × (c < size .classes) ⌝ }
-    ensures { λ _. ⌜ RowsWith (now (markers .entry)) (λ d i. leads size (now (t .entry)) (size .fields - 1) c i && bringsMarker (now (marks .entry)) (now (leaves .entry)) n r c d) (now (markers .exit)) ⌝ }
+    requires { ⌜ (k < length (now leaves)) × (k * 8 + 8 ≤ length (now takers)) × (length (now markers) ≡ 2048) ⌝ }
+    ensures { λ _. ⌜ RowsWith (now (markers .entry)) (λ d i. markerFor r d (getD (now (leaves .entry)) k 0) && meeting (size .classes) (has (now (takers .entry)) k) (λ c. leads size (now (t .entry)) (size .fields - 1) c i)) (now (markers .exit)) ⌝ }
 {
-    let mut acc = [0u64; 8];
-    gather(&mut acc, 0, t, row_of(size, class_field(size), c));
-    put_markers(markers, &acc, marks, leaves, n, r, c);
+    let x = leaves[k];
+    if is_marker(x) {
+        if role_in(x) == r {
+            let mut acc = [0u64; 8];
+            compose(
+                &mut acc,
+                takers,
+                k,
+                t,
+                rows_of(size, class_field(size)),
+                size.classes,
+            );
+            gather(markers, filler_in(x), &acc, 0);
+        }
+    }
 }
 
 // The markers under role r that the classes bring.
@@ -147,18 +124,18 @@ fn role_markers(
     markers: &mut [u64],
     t: &[u64],
     size: Size,
-    marks: &[u64],
+    takers: &[u64],
     leaves: &[u32],
     n: usize,
     r: usize,
 )
     requires { ⌜ Table size (now t) ⌝ }
-    requires { ⌜ (n ≤ length (now leaves)) × (n ≤ 4096) × (size .classes * 64 ≤ length (now marks)) ⌝ }
+    requires { ⌜ (n ≤ length (now leaves)) × (n ≤ 4096) × (n * 8 ≤ length (now takers)) ⌝ }
     requires { ⌜ length (now markers) ≡ 2048 ⌝ }
-    ensures { λ _. ⌜ RowsWith (now (markers .entry)) (markerRow size (now (t .entry)) (now (marks .entry)) (now (leaves .entry)) n r (size .classes)) (now (markers .exit)) ⌝ }
+    ensures { λ _. ⌜ RowsWith (now (markers .entry)) (markerRow size (now (t .entry)) (now (takers .entry)) (now (leaves .entry)) n r (size .classes)) (now (markers .exit)) ⌝ }
 {
-    for c in 0..size.classes {
-        class_markers(markers, t, size, marks, leaves, n, r, c);
+    for k in 0..n {
+        put_marker(markers, t, size, takers, leaves, k, r);
     }
 }
 
@@ -166,19 +143,19 @@ fn role_markers(
 fn role_clash(
     t: &[u64],
     size: Size,
-    marks: &[u64],
+    takers: &[u64],
     leaves: &[u32],
     n: usize,
     disjoint: &[u64],
     r: usize,
 ) -> bool
     requires { ⌜ Table size (now t) ⌝ }
-    requires { ⌜ (n ≤ length (now leaves)) × (n ≤ 4096) × (size .classes * 64 ≤ length (now marks)) ⌝ }
+    requires { ⌜ (n ≤ length (now leaves)) × (n ≤ 4096) × (n * 8 ≤ length (now takers)) ⌝ }
     requires { ⌜ (size .classes * 8 ≤ length (now disjoint)) ⌝ }
-    ensures { λ x. ⌜ x ≡ rowsClash (size .individuals) (size .classes) (now (disjoint .entry)) false (markerRow size (now (t .entry)) (now (marks .entry)) (now (leaves .entry)) n r (size .classes)) ⌝ }
+    ensures { λ x. ⌜ x ≡ rowsClash (size .individuals) (size .classes) (now (disjoint .entry)) false (markerRow size (now (t .entry)) (now (takers .entry)) (now (leaves .entry)) n r (size .classes)) ⌝ }
 {
     let mut markers = [0u64; 2048];
-    role_markers(&mut markers, t, size, marks, leaves, n, r);
+    role_markers(&mut markers, t, size, takers, leaves, n, r);
     rows_clash(&markers, 0, size, disjoint, false)
 }
 
@@ -186,7 +163,7 @@ fn role_clash(
 fn named_clash(
     t: &[u64],
     size: Size,
-    marks: &[u64],
+    takers: &[u64],
     leaves: &[u32],
     n: usize,
     disjoint: &[u64],
@@ -194,14 +171,14 @@ fn named_clash(
     r: usize,
 ) -> bool
     requires { ⌜ Table size (now t) ⌝ }
-    requires { ⌜ (n ≤ length (now leaves)) × (n ≤ 4096) × (size .classes * 64 ≤ length (now marks)) ⌝ }
+    requires { ⌜ (n ≤ length (now leaves)) × (n ≤ 4096) × (n * 8 ≤ length (now takers)) ⌝ }
     requires { ⌜ (size .classes * 8 ≤ length (now disjoint)) ⌝ }
     requires { ⌜ (8 ≤ length (now functional)) ⌝ }
     requires { ⌜ 2 * r + 2 < size .fields ⌝ }
-    ensures { λ x. ⌜ x ≡ (has (now (functional .entry)) 0 (2 * r) && rowsClash (size .individuals) (size .classes) (now (disjoint .entry)) false (markerRow size (now (t .entry)) (now (marks .entry)) (now (leaves .entry)) n r (size .classes))) ⌝ }
+    ensures { λ x. ⌜ x ≡ (has (now (functional .entry)) 0 (2 * r) && rowsClash (size .individuals) (size .classes) (now (disjoint .entry)) false (markerRow size (now (t .entry)) (now (takers .entry)) (now (leaves .entry)) n r (size .classes))) ⌝ }
 {
     if member(functional, 0, 2 * r) {
-        return role_clash(t, size, marks, leaves, n, disjoint, r);
+        return role_clash(t, size, takers, leaves, n, disjoint, r);
     }
     false
 }
@@ -210,21 +187,21 @@ fn named_clash(
 fn markers_clash(
     t: &[u64],
     size: Size,
-    marks: &[u64],
+    takers: &[u64],
     leaves: &[u32],
     n: usize,
     disjoint: &[u64],
     functional: &[u64],
 ) -> bool
     requires { ⌜ Table size (now t) ⌝ }
-    requires { ⌜ (n ≤ length (now leaves)) × (n ≤ 4096) × (size .classes * 64 ≤ length (now marks)) ⌝ }
+    requires { ⌜ (n ≤ length (now leaves)) × (n ≤ 4096) × (n * 8 ≤ length (now takers)) ⌝ }
     requires { ⌜ (size .classes * 8 ≤ length (now disjoint)) ⌝ }
     requires { ⌜ (8 ≤ length (now functional)) ⌝ }
-    ensures { λ x. ⌜ x ≡ any (size .fields / 2 - 1) (λ r. has (now (functional .entry)) 0 (2 * r) && rowsClash (size .individuals) (size .classes) (now (disjoint .entry)) false (markerRow size (now (t .entry)) (now (marks .entry)) (now (leaves .entry)) n r (size .classes))) ⌝ }
+    ensures { λ x. ⌜ x ≡ any (size .fields / 2 - 1) (λ r. has (now (functional .entry)) 0 (2 * r) && rowsClash (size .individuals) (size .classes) (now (disjoint .entry)) false (markerRow size (now (t .entry)) (now (takers .entry)) (now (leaves .entry)) n r (size .classes))) ⌝ }
 {
     let m = size.fields / 2 - 1;
     for r in 0..m {
-        if named_clash(t, size, marks, leaves, n, disjoint, functional, r) {
+        if named_clash(t, size, takers, leaves, n, disjoint, functional, r) {
             return true;
         }
     }
@@ -235,20 +212,20 @@ fn markers_clash(
 pub fn clash(
     t: &[u64],
     size: Size,
-    marks: &[u64],
+    takers: &[u64],
     leaves: &[u32],
     n: usize,
     disjoint: &[u64],
     functional: &[u64],
 ) -> bool
     requires { ⌜ Table size (now t) ⌝ }
-    requires { ⌜ (n ≤ length (now leaves)) × (n ≤ 4096) × (size .classes * 64 ≤ length (now marks)) ⌝ }
+    requires { ⌜ (n ≤ length (now leaves)) × (n ≤ 4096) × (n * 8 ≤ length (now takers)) ⌝ }
     requires { ⌜ (size .classes * 8 ≤ length (now disjoint)) ⌝ }
     requires { ⌜ (8 ≤ length (now functional)) ⌝ }
-    ensures { λ x. ⌜ x ≡ clashIn size (now (t .entry)) (now (marks .entry)) (now (leaves .entry)) n (now (disjoint .entry)) (now (functional .entry)) ⌝ }
+    ensures { λ x. ⌜ x ≡ clashIn size (now (t .entry)) (now (takers .entry)) (now (leaves .entry)) n (now (disjoint .entry)) (now (functional .entry)) ⌝ }
 {
     if rows_clash(t, rows_of(size, class_field(size)), size, disjoint, true) {
         return true;
     }
-    markers_clash(t, size, marks, leaves, n, disjoint, functional)
+    markers_clash(t, size, takers, leaves, n, disjoint, functional)
 }

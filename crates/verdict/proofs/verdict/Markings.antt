@@ -1,19 +1,23 @@
 -- Rows that get more members: the markers that classes bring.
-use Prim.Native.Nat.{ℕ, _+_, _*_, _/_, _%_, _<_, _≤_}
-use mathlib.Core.Path.{_≡_, refl, sym, ap, subst, _∙_}
+use Prim.Native.Nat.{ℕ, _+_, _-_, _*_, _/_, _%_, _<_}
+use mathlib.Core.Path.{_≡_, refl, sym, ap, _∙_}
 use mathlib.Core.Bool.{Bool, true, false, _&&_, _||_}
 use mathlib.Core.List.{List}
 use native.Mathlib.Decide.{ℕ-discrete}
 use native.Mathlib.Omega.{arith}
-use lib.ListN.{replicate}
+use lib.ListN.{getD, replicate}
 use lib.Dec.{eqb}
 use borrow.Author.Tests.{eq-eqb, ne-eqb}
-use Rattle.rows.specs.Row.{has, Gathered, Scan}
+use Rattle.rows.specs.Row.{has, Gathered, Composed}
+use Rattle.rows.specs.declared.table.Size.{Size}
+use Rattle.rows.specs.Table.{leads}
 use Rattle.rules.specs.Rule.{any}
+use Rattle.rules.proofs.Tests.{and-both, and-intro, any-some, some-any}
 use Rattle.tables.specs.Leaf.{kindIn}
-use Rattle.verdict.specs.Verdict.{markerFor, RowsWith}
-use Rattle.verdict.proofs.verdict.Blank.{row-taken}
-use Rattle.verdict.proofs.verdict.Searches.{any-more, any-skip}
+use Rattle.verdict.specs.Verdict.{meeting, markerFor, markerRow, RowsWith}
+use Rattle.verdict.proofs.pair.Passing.{both-ways}
+use Rattle.verdict.proofs.verdict.Blank.{row-composed}
+use Rattle.verdict.proofs.verdict.Searches.{any-more}
 
 -- a test or one that fails
 or-none : (a : Bool) → a ≡ (a || false)
@@ -41,10 +45,6 @@ rows-then {u} {v} {w} {f} {g} {k} p q h = record {
 pub rows-as : {u v : List ℕ} {f g : ℕ → ℕ → Bool} → RowsWith u f v → ((d i : ℕ) → i < 512 → f d i ≡ g d i) → RowsWith u g v
 rows-as {u} {v} {f} {g} p h = record { len = p .len; rows = λ d i l m. p .rows d i l m ∙ ap (λ (b : Bool). has u d i || b) (h d i m) }
 
--- with the members of row k of t for those of the row that they were gathered into
-pub rows-taken : {t mask u v : List ℕ} {k : ℕ} (f : ℕ → Bool) → RowsWith u (λ d i. has mask 0 i && f d) v → Gathered (replicate 8 0) 0 t k mask → RowsWith u (λ d i. has t k i && f d) v
-rows-taken f p g = rows-as p (λ d i l. ap (λ (b : Bool). b && f d) (row-taken 8 g i l))
-
 -- ---- the marker of a leaf
 
 -- a leaf that is no marker is not the marker (r, d)
@@ -59,70 +59,29 @@ marker-other r d x e n = rw (e, ne-eqb (x % 1048576 / 256) r n)
 marker-this : (r d x : ℕ) → eqb (kindIn x) 5 ≡ true → x % 1048576 / 256 ≡ r → markerFor r d x ≡ eqb (x % 256) d
 marker-this r d x e q = rw (e, eq-eqb (x % 1048576 / 256) r q) (sym (or-none (eqb (x % 256) d)))
 
--- what put_marker does of a leaf x
-module _ {u : List ℕ} {marker : Bool} (r x : ℕ) (mask : List ℕ) (test : marker ≡ eqb (kindIn x) 5) where
+-- what put_marker does of a leaf x, for those that pass h
+module _ {u : List ℕ} {marker : Bool} (r x : ℕ) (h : ℕ → Bool) (test : marker ≡ eqb (kindIn x) 5) where
   -- no marker: nothing
-  pub put-none : marker ≡ false → RowsWith u (λ d i. markerFor r d x && has mask 0 i) u
+  pub put-none : marker ≡ false → RowsWith u (λ d i. markerFor r d x && h i) u
   put-none e = rows-none (λ d i. rw (marker-none r d x (sym test ∙ e)))
 
   -- a marker under another role: nothing
-  pub put-other : {role : ℕ} → marker ≡ true → role ≡ x % 1048576 / 256 → (role ≡ r → ⊥) → RowsWith u (λ d i. markerFor r d x && has mask 0 i) u
+  pub put-other : {role : ℕ} → marker ≡ true → role ≡ x % 1048576 / 256 → (role ≡ r → ⊥) → RowsWith u (λ d i. markerFor r d x && h i) u
   put-other e q n = rows-none (λ d i. rw (marker-other r d x (sym test ∙ e) (λ z. n (q ∙ z))))
 
-  -- a marker under r: the members of the mask go into the row of its class
-  pub put-this : {v : List ℕ} {role class : ℕ} → marker ≡ true → role ≡ x % 1048576 / 256 → role ≡ r → class ≡ x % 256 → Gathered u class mask 0 v
-      → RowsWith u (λ d i. markerFor r d x && has mask 0 i) v
-  put-this {v} {role} {class} e q n k g = record { len = g .len; rows = λ d i l m. rw (marker-this r d x (sym test ∙ e) (sym q ∙ n), ← k) (go d i m (ℕ-discrete class d)) }
+  -- a marker under r: they go into the row of its class
+  put-this : {mask v : List ℕ} {role class : ℕ} → marker ≡ true → role ≡ x % 1048576 / 256 → role ≡ r → class ≡ x % 256 → ((i : ℕ) → i < 512 → has mask 0 i ≡ h i) → Gathered u class mask 0 v
+      → RowsWith u (λ d i. markerFor r d x && h i) v
+  put-this {mask} {v} {role} {class} e q n k f g = record { len = g .len; rows = λ d i l m. rw (marker-this r d x (sym test ∙ e) (sym q ∙ n), ← k) (go d i m (ℕ-discrete class d)) }
     where
-      go : (d i : ℕ) → i < 512 → Dec (class ≡ d) → has v d i ≡ (has u d i || (eqb class d && has mask 0 i))
-      go d i m (yes s) = rw (eq-eqb class d s, ← s) (g .all i m)
+      go : (d i : ℕ) → i < 512 → Dec (class ≡ d) → has v d i ≡ (has u d i || (eqb class d && h i))
+      go d i m (yes s) = rw (eq-eqb class d s, ← s, ← f i m) (g .all i m)
       go d i m (no s) = rw (ne-eqb class d s) (g .other (d * 512 + i) (λ z. s (omega arith)) ∙ or-none (has u d i))
 
--- ---- a loop over the numbers k below n that pass f, each of which puts the members h into the rows d that pass g k
-
--- done with the numbers below k; k, if it is below n, passes f
-pub record Marking (u : List ℕ) (h f : ℕ → Bool) (g : ℕ → ℕ → Bool) (n k : ℕ) (v : List ℕ) : Type 0 where
-  pub done : RowsWith u (λ d i. h i && any k (λ j. f j && g j d)) v
-  pub hit : k < n → f k ≡ true
-  pub over : (j : ℕ) → n ≤ j → j < k → f j ≡ false
-
-module _ {u : List ℕ} {h f : ℕ → Bool} {g : ℕ → ℕ → Bool} {n k : ℕ} where
-  -- k is the first that passes f, and nothing is done
-  pub marking-first : Scan f 0 n k → Marking u h f g n k u
-  marking-first s = record {
-    done = rows-none (λ d i. rw (any-skip (λ j. f j && g j d) 0 k (omega arith) (λ j l m. rw (s .gap j l m))) (no (h i)));
-    hit = s .hit;
-    over = λ j l m. s .gap j (omega arith) m;
-  }
-    where
-      no : (a : Bool) → (a && false) ≡ false
-      no true = refl
-      no false = refl
-
-  -- k is done, and e is the next that passes f
-  pub marking-next : {v w : List ℕ} {e : ℕ} → Marking u h f g n k v → k < n → RowsWith v (λ d i. g k d && h i) w → Scan f (k + 1) n e → Marking u h f g n e w
-  marking-next {v} {w} {e} m l p s = record {
-    done = rows-then (m .done) p (λ d i. rw (more d) (both (h i) (any k (λ j. f j && g j d)) (g k d)));
-    hit = s .hit;
-    over = λ j a b. s .gap j (omega arith) b;
-  }
-    where
-      more : (d : ℕ) → any e (λ j. f j && g j d) ≡ (g k d || any k (λ j. f j && g j d))
-      more d =
-          any-skip (λ j. f j && g j d) (k + 1) e (s .ge) (λ j a b. rw (s .gap j a b))
-          ∙ any-more k (λ j. f j && g j d) ∙ rw (m .hit l)
-
-      both : (a b c : Bool) → ((a && b) || (c && a)) ≡ (a && (c || b))
-      both true true true = refl
-      both true true false = refl
-      both true false true = refl
-      both true false false = refl
-      both false b true = refl
-      both false b false = refl
-
-  -- none is left
-  pub marking-end : {v : List ℕ} → Marking u h f g n k v → n ≤ k → RowsWith u (λ d i. h i && any n (λ j. f j && g j d)) v
-  marking-end m l = rows-as (m .done) (λ d i o. ap (λ (b : Bool). h i && b) (any-skip (λ j. f j && g j d) n k l (λ j a b. rw (m .over j a b))))
+-- and those are what is of a class that takes concept k
+pub put-taken : {marker : Bool} {u mask v t : List ℕ} {role class base : ℕ} (n r x k : ℕ) (T : List ℕ) → marker ≡ eqb (kindIn x) 5 → marker ≡ true → role ≡ x % 1048576 / 256 → role ≡ r → class ≡ x % 256
+    → Composed (replicate 8 0) T k t base 0 n n mask → Gathered u class mask 0 v → RowsWith u (λ d i. markerFor r d x && meeting n (has T k) (λ c. has t (base + c) i)) v
+put-taken n r x k T test e q o f p g = put-this r x _ test e q o f (row-composed p) g
 
 -- ---- a loop over all numbers k, each of which puts those that pass g k d into row d
 
@@ -145,6 +104,16 @@ module _ {u : List ℕ} {g : ℕ → ℕ → ℕ → Bool} where
       swap false true = refl
       swap false false = refl
 
-  -- all are done
-  pub brought-all : {v : List ℕ} {k n : ℕ} → Brought u g k v → k ≡ n → RowsWith u (λ d i. any n (λ j. g j d i)) v
-  brought-all {v} p e = subst (λ (n : ℕ). RowsWith u (λ d i. any n (λ j. g j d i)) v) e (p .done)
+-- ---- the markers of a role, by concept and by class
+
+-- a concept that passes f, and a class that takes it and passes h; and the other way round
+taken-same : (n m : ℕ) (T : List ℕ) (f h : ℕ → Bool) → any n (λ k. f k && meeting m (has T k) h) ≡ any m (λ c. h c && any n (λ k. has T k c && f k))
+taken-same n m T f h = both-ways (any n _) (any m _)
+    (λ e. let k = any-some n _ e in let a = and-both (f (k .0)) (meeting m (has T (k .0)) h) (k .2) in let c = any-some m _ (a .1) in let b = and-both (has T (k .0) (c .0)) (h (c .0)) (c .2) in
+    some-any m _ (c .0) (c .1) (and-intro _ _ (b .1) (some-any n _ (k .0) (k .1) (and-intro _ _ (b .0) (a .0)))))
+    (λ e. let c = any-some m _ e in let a = and-both (h (c .0)) (any n (λ k. has T k (c .0) && f k)) (c .2) in let k = any-some n _ (a .1) in let b = and-both (has T (k .0) (c .0)) (f (k .0)) (k .2) in
+    some-any n _ (k .0) (k .1) (and-intro _ _ (b .1) (some-any m _ (c .0) (c .1) (and-intro _ _ (b .0) (a .0)))))
+
+-- what the first n concepts put into the rows are the markers that the classes bring
+pub markers-brought : {u v : List ℕ} (z : Size) (t T L : List ℕ) (n r : ℕ) → Brought u (λ k d i. markerFor r d (getD L k 0) && meeting (z .classes) (has T k) (λ c. leads z t (z .fields - 1) c i)) n v → RowsWith u (markerRow z t T L n r (z .classes)) v
+markers-brought z t T L n r p = rows-as (p .done) (λ d i l. taken-same n (z .classes) T (λ k. markerFor r d (getD L k 0)) (λ c. leads z t (z .fields - 1) c i))

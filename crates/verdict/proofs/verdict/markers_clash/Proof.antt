@@ -9,10 +9,10 @@ use Rattle.verdict.proofs.verdict.markers_clash.Statement.{statement}
 use Rattle.verdict.proofs.verdict.markers_clash.Tie as tie
 
 abbrev Inv-loop : tie.InvT-loop
-Inv-loop t size marks leaves n disjoint functional m r₀ r = (r ≤ m) × Past (λ x. has functional 0 (2 * x) && rowsClash (size .individuals) (size .classes) disjoint false (markerRow size t marks leaves n x (size .classes))) 0 r
+Inv-loop t size takers leaves n disjoint functional m r₀ r = (r ≤ m) × Past (λ x. has functional 0 (2 * x) && rowsClash (size .individuals) (size .classes) disjoint false (markerRow size t takers leaves n x (size .classes))) 0 r
 
 abbrev μ-loop : tie.MeasureT-loop
-μ-loop t size marks leaves n disjoint functional m r₀ r = m - r
+μ-loop t size takers leaves n disjoint functional m r₀ r = m - r
 
 sub-m : tie.Need-sub-m Inv-loop μ-loop
 sub-m c = omega (arith, c .before .before .before .before .before .before .pre .0 .sized .some)
