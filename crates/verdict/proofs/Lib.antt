@@ -1,0 +1,2 @@
+-- What the tally of a table is.
+pub mod Tally
