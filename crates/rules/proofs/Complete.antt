@@ -13,12 +13,12 @@ use Rattle.book.specs.declared.statement.SubRolePath.the-variants.{One, Two, Th
 use Rattle.book.specs.declared.statement.Axiom.{Axiom}
 use Rattle.book.specs.declared.statement.Axiom.the-variants.{SubClassOf, EquivalentClasses, DisjointClasses, InverseObjectProperties, SubObjectPropertyOf, TransitiveRole, SymmetricRole, FunctionalRole, InverseFunctionalRole, ObjectPropertyDomain, ObjectPropertyRange, SameIndividual, ClassAssertion, ObjectPropertyAssertion}
 use Rattle.book.specs.Within.{Every, RoleWithin, Within, PathWithin}
-use Rattle.book.specs.Tree.{Concept, Concepts, Atomic}
+use Rattle.book.specs.Tree.{Concept, Concepts}
 use Rattle.book.specs.Book.{Book}
 use Rattle.book.specs.declared.role.Role.{Role}
 use Rattle.book.specs.declared.role.Role.the-variants.{Named, Inverse}
 use Rattle.rules.specs.Fact.{edge, type, two}
-use Rattle.rules.specs.Rule.{Set, Rule, Obeys}
+use Rattle.rules.specs.Rule.{Set, Obeys}
 use Rattle.rules.specs.Brought.{concept, Value, from, leaves, leavesIn, atomicOf, valueOf, atomics, values}
 use Rattle.rules.specs.ToldSame.{sameBy, label, same}
 use Rattle.rules.specs.Meaning.{told, bring, swap, under, share, ruleOf, rules, conclusions}

@@ -15,7 +15,7 @@ use Rattle.book.specs.Role.{flipped}
 use Rattle.book.specs.declared.role.Role.{Role}
 use Rattle.book.specs.declared.role.Role.the-variants.{Named, Inverse}
 use Rattle.rules.specs.Fact.{setOf, edge, type}
-use Rattle.rules.specs.Rule.{Set, Rule, Obeys}
+use Rattle.rules.specs.Rule.{Set, Obeys}
 use Rattle.rules.specs.Brought.{concept, Value, listed, atomicOf, atomics, values}
 use Rattle.rules.specs.ToldSame.{sameBy, same}
 use Rattle.rules.specs.Meaning.{told, brings, bring, swap, under, merge, share, ruleOf, rules, conclusions}
