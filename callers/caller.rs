@@ -6,7 +6,7 @@ use std::{env, fs, path::PathBuf, process, thread};
 
 const BUDGET: usize = 4000;
 const MOST_BYTES: usize = 65536;
-const STACK: usize = 8 << 20; // a call takes up to 5 MB; a thread has 2 MB unless it is given more
+const STACK: usize = 8 << 20; // a call needs ZAMOLUVEL_STACK bytes; a thread has 2 MB unless it is given more
 
 const FINISHED: u32 = 0;
 const CLASH: u32 = 1;

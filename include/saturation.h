@@ -1,9 +1,10 @@
 /* The conclusions of a book, told facts and rules run to the smallest sets; and the book itself, cleaned.
  *
  * Link with libzamoluvel.a (`rt staticlib zamoluvel`). The functions keep nothing between calls, allocate
- * nothing and may be called from several threads at once. A call takes some 60 KB of stack for a small book, and
- * up to 5 MB for one of many roles and individuals: a thread needs as much. Each is proved to meet its contract
- * (crates/zamoluvel) for whatever bytes, numbers and lists it is given.
+ * nothing and may be called from several threads at once. A thread that calls them needs ZAMOLUVEL_STACK bytes of
+ * stack; the default of many systems is enough for the first thread and not for others. That figure is measured, with
+ * the worst books that are known, and not proved. Each function is proved to meet its contract (crates/zamoluvel) for
+ * whatever bytes, numbers and lists it is given.
  */
 #ifndef ZAMOLUVEL_SATURATION_H
 #define ZAMOLUVEL_SATURATION_H
@@ -14,6 +15,9 @@
 #ifdef __cplusplus
 extern "C" {
 #endif
+
+/* The bytes of stack that a call takes at most. */
+#define ZAMOLUVEL_STACK 6815744u
 
 /* How a run ends. */
 #define ZAMOLUVEL_FINISHED 0u

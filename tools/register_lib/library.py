@@ -13,7 +13,7 @@ NAME = 'zamoluvel'  # of the crate that it is built from
 BUILD = f'rt staticlib {NAME}'
 ARCHIVE = pathlib.Path(__file__).resolve().parent.parent.parent / 'target' / 'staticlib' / f'lib{NAME}.a'
 CC = os.environ.get('CC') or 'cc'
-STACK = 16 << 20  # bytes for a call, of which the header asks for 5 MB at most
+STACK = 16 << 20  # bytes for a call; the header asks for less
 
 MOST_BUDGET = 1000000
 FINISHED, CLASH, SPENT, REFUSED = 0, 1, 2, 100
