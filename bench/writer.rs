@@ -155,7 +155,14 @@ fn main() {
     let classes: Vec<Statement> =
         scattered(4096).iter().map(|x| subclass((x >> 12 & 4095) as u16, (x & 4095) as u16)).collect();
     let deep: Vec<Statement> = (0..4096).map(|n| path_of_three(n % 128, n / 128, 0, 0)).collect();
+    let signed = |(n, (kind, map, fields)): (usize, &Statement)| {
+        (*kind, map | 0x0100, [&fields[..], &[1 + (n % 1023) as u16]].concat())
+    };
+    let sources: Vec<Statement> = edges.iter().enumerate().map(signed).collect();
+    let shared: Vec<Statement> = edges[..4].iter().cycle().take(4092).enumerate().map(signed).collect();
     row("4,096 different role assertions", 0, &edges, runs);
+    row("4,096 different role assertions of 1,023 sources", 0, &sources, runs);
+    row("four role assertions, each by 1,023 sources", 0, &shared, runs);
     row("4,096 different class assertions", 4096, &types, runs);
     row("4,096 different subclass statements", 4096, &classes, runs);
     row("4,096 equal statements", 0, &vec![edges[0].clone(); 4096], runs);

@@ -31,7 +31,8 @@ extern "C" {
 
 /* Runs a book.
  *
- *   book, book_len    the bytes of the book, any at all; they are read only
+ *   book, book_len    the bytes of the book, any at all; they are read only. The sources of its statements change
+ *                     nothing.
  *   budget            how many facts, types and edges together, may be kept: at most 1,000,000
  *   types, types_len  the type list, at least 2 * budget entries: (individual, class) for each type
  *   edges, edges_len  the edge list, at least 3 * budget entries: (role, first, second) for each edge
@@ -47,8 +48,9 @@ extern "C" {
  *                          the three counts are the numbers of rows
  *   ZAMOLUVEL_CLASH        no world fits the book; type and edge counts; every entry of every list is 0
  *   ZAMOLUVEL_SPENT        there are more facts than the budget; every entry of every list is 0
- *   ZAMOLUVEL_REFUSED + n  refused by number: 1 the budget, 2 the edge list, 3 the type list, 4 to 10 the book,
- *                          each of these with the lists as they were; 11 the pair list is too short, and every
+ *   ZAMOLUVEL_REFUSED + n  refused by number: 1 the budget, 2 the edge list, 3 the type list, 4 to 10 the book (5 also
+ *                          for a written source 0, 9 also for a source above 1,023), each of these with the lists as
+ *                          they were; 11 the pair list is too short, and every
  *                          entry of every list is 0
  */
 uint32_t zamoluvel_saturate(const uint8_t *book, size_t book_len, uint64_t budget, uint32_t *types,
@@ -67,8 +69,8 @@ size_t zamoluvel_named_part(uint32_t end, uint32_t edge_count, uint32_t pair_cou
 /* What zamoluvel_write answers, beside ZAMOLUVEL_REFUSED plus the number of the refusal, 4 to 10 or 12. */
 #define ZAMOLUVEL_WRITTEN 0u
 
-/* Writes a book without the statements that repeat an earlier one in kind and fields; the first of each stays, and the
- * order. Header counts, concepts and all else stay as they are. A book without repeats comes out byte for byte, a
+/* Writes a book without the statements that repeat an earlier one in kind and fields, the source among them; the first
+ * of each stays, and the order. Header counts, concepts and all else stay as they are. A book without repeats comes out byte for byte, a
  * written book written again comes out the same, and every run of it ends as the original's does, lists included.
  *
  *   book, book_len  the bytes of the book, any at all; they are read only
@@ -86,7 +88,7 @@ size_t zamoluvel_named_part(uint32_t end, uint32_t edge_count, uint32_t pair_cou
 uint32_t zamoluvel_write(const uint8_t *book, size_t book_len, uint8_t *out, size_t out_len, size_t *written);
 
 /* A book of the list of every small book: one class, one role, two individuals, the concept Atomic 0 and at most two
- * statements. There are 1 + 61 + 3,721 of them, fewer statements first, then by their bytes.
+ * statements, none with a source. There are 1 + 61 + 3,721 of them, fewer statements first, then by their bytes.
  *
  *   position      which one, counted from 0; any number
  *   out, out_len  the lent bytes, any number of them; 37 are enough for every small book. Where there are none, out

@@ -16,7 +16,7 @@ class Register:
     """A book under construction: concepts are named by the numbers that the methods return."""
 
     def __init__(self, classes, roles, individuals):
-        self.counts, self.concepts, self.statements = (classes, roles, individuals), [], []
+        self.counts, self.concepts, self.statements, self.marks = (classes, roles, individuals), [], [], []
 
     def concept(self, kind, *fields):
         self.concepts.append((kind, *fields))
@@ -34,12 +34,13 @@ class Register:
     def both(self, *parts):
         return self.concept(f.AND, *parts)
 
-    def tell(self, kind, *fields):
+    def tell(self, kind, *fields, source=0):
         self.statements.append((kind, *fields))
+        self.marks.append(f.Marks(source))
         return self
 
     def data(self):
-        return f.write(self.counts, self.concepts, self.statements)
+        return f.write(self.counts, self.concepts, self.statements, self.marks)
 
 
 class Bar:
@@ -69,6 +70,25 @@ def bars():
     row('too short an edge list: refused 2, though the type list is too short as well', [0], 'refused 2', budget=2, type_room=3, edge_room=5, room=1)
     row('too short a type list: refused 3', [0], 'refused 3', budget=2, type_room=3, edge_room=6, room=1)
     row('a byte behind the last statement: refused 10', [0, 0], 'refused 10')
+
+    # whose statement it was
+    one = Register(0, 0, 2).tell(f.SAME, 0, 1, source=1).data()
+    row('a source 1', one, 'finished 0 0 0')
+    row('a source 1,023', one[:-2] + f.u16(1023), 'finished 0 0 0')
+    row('a written source 0: refused 5', one[:-2] + f.u16(0), 'refused 5')
+    row('a source 1,024: refused 9', one[:-2] + f.u16(1024), 'refused 9')
+    row('a source cut off: refused 4', one[:-1], 'refused 4')
+    row('bit 9 of a map: refused 8', one[:7] + b'\x02' + one[8:], 'refused 8')
+    b = Register(0, 1, 3).tell(f.TRANSITIVE, P, source=7).tell(f.ROLE_ASSERTION, P, 0, 1, source=1).tell(f.ROLE_ASSERTION, P, 1, 2, source=1023)
+    row('p transitive by one source, p(0,1) and p(1,2) by two others: p(0,2)', b, 'finished 0 3 0', edges=[(0, 0, 1), (0, 0, 2), (0, 1, 2)])
+    b = Register(0, 1, 2)
+    for source in (0, 1, 2, 1):
+        b.tell(f.ROLE_ASSERTION, P, 0, 1, source=source)
+    row('p(0,1) by the shared book and by two sources: one edge', b, 'finished 0 1 0', edges=[(0, 0, 1)], budget=1)
+    b = Register(2, 0, 1)
+    a, c = b.classes(2)
+    b.tell(f.DISJOINT, a, c, source=1).tell(f.CLASS_ASSERTION, a, 0, source=2).tell(f.CLASS_ASSERTION, c, 0, source=3)
+    row('A and B disjoint, 0:A, 0:B, by three sources: clash', b, 'clash 2 0')
 
     # rule 3
     b = Register(0, 2, 2).tell(f.INVERSE, P, Q).tell(f.ROLE_ASSERTION, P, 0, 1)

@@ -2,10 +2,12 @@
 refusal numbers, and a writer of records. The tests hold the two against each other.
 
 A concept is (kind, fields) with the fields in the order of their bits; the fields of an And or Or are
-its part numbers. A statement is (kind, map, fields). Role fields are twice the role's number, plus 1 for
-the inverse.
+its part numbers. A statement is (kind, map, fields), with the low byte of the map; its marks, which any
+kind may have, stand apart: whose statement it was, 0 for the shared book. Role fields are twice the role's
+number, plus 1 for the inverse.
 """
 import struct
+from collections import namedtuple
 
 LIMITS = (256, 64, 512, 4096, 4096)  # classes, roles, individuals, concepts, statements
 CLASSES, ROLES, INDIVIDUALS, CONCEPTS, STATEMENTS = range(5)
@@ -20,6 +22,11 @@ STATEMENT_MAPS = {
     TRANSITIVE: (0x01,), SYMMETRIC: (0x01,), FUNCTIONAL: (0x01,), INVERSE_FUNCTIONAL: (0x01,),
     DOMAIN: (0x11,), RANGE: (0x11,), SAME: (0xC0,), CLASS_ASSERTION: (0x50,), ROLE_ASSERTION: (0xC1,),
 }
+# the fields that every kind may have, behind its own: bit of the map, limit, and the value of an absent one, which is never written
+MARKS = {'source': (8, 1024, 0)}
+Marks = namedtuple('Marks', MARKS, defaults=[absent for _, _, absent in MARKS.values()])
+UNMARKED = Marks()
+MARK_BITS = sum(1 << bit for bit, _, _ in MARKS.values())
 
 
 class Refused(Exception):
@@ -31,8 +38,11 @@ class Refused(Exception):
 
 
 class Book:
-    def __init__(self, counts, concepts, statements):
+    """`marks` has those of each statement."""
+
+    def __init__(self, counts, concepts, statements, marks=None):
         self.counts, self.concepts, self.statements = counts, concepts, statements
+        self.marks = [UNMARKED] * len(statements) if marks is None else marks
 
 
 class Cursor:
@@ -47,6 +57,14 @@ class Cursor:
 
     def below(self, limit):
         value = self.number(2)
+        if value >= limit:
+            raise Refused(9, self.at)
+        return value
+
+    def mark(self, limit, absent):
+        value = self.number(2)
+        if value == absent:
+            raise Refused(5, self.at)
         if value >= limit:
             raise Refused(9, self.at)
         return value
@@ -67,10 +85,10 @@ def read(data):
             if counts[bit] > LIMITS[bit]:
                 raise Refused(6, cursor.at)
     concepts = [read_concept(cursor, counts, k) for k in range(counts[CONCEPTS])]
-    statements = [read_statement(cursor, counts) for _ in range(counts[STATEMENTS])]
+    records = [read_statement(cursor, counts) for _ in range(counts[STATEMENTS])]
     if cursor.at < len(data):
         raise Refused(10, cursor.at)
-    return Book(counts, concepts, statements)
+    return Book(counts, concepts, [statement for statement, _ in records], [marks for _, marks in records])
 
 
 def read_concept(cursor, counts, k):
@@ -90,15 +108,19 @@ def read_concept(cursor, counts, k):
 
 
 def read_statement(cursor, counts):
+    """A statement and its marks."""
     kind = cursor.number(1)
     if kind not in STATEMENT_MAPS:
         raise Refused(7, cursor.at)
     map_ = cursor.number(2)
-    if map_ not in STATEMENT_MAPS[kind]:
+    own = map_ & 0xFF
+    if own not in STATEMENT_MAPS[kind] or map_ & ~0xFF & ~MARK_BITS:
         raise Refused(8, cursor.at)
     role, concept, individual = 2 * counts[ROLES], counts[CONCEPTS], counts[INDIVIDUALS]
     limits = (role, role, role, role, concept, concept, individual, individual)
-    return kind, map_, [cursor.below(limits[bit]) for bit in range(8) if map_ >> bit & 1]
+    fields = [cursor.below(limits[bit]) for bit in range(8) if own >> bit & 1]
+    marks = Marks(*(cursor.mark(limit, absent) if map_ >> bit & 1 else absent for bit, limit, absent in MARKS.values()))
+    return (kind, own, fields), marks
 
 
 def u16(*values):
@@ -120,21 +142,25 @@ def concept(kind, *fields):
     return out + u16(*fields)
 
 
-def statement(kind, *fields):
+def statement(kind, *fields, marks=UNMARKED):
     """The bytes of a statement record; a path's map goes by the number of its roles."""
     maps = STATEMENT_MAPS[kind]
     map_ = maps[0] if len(maps) == 1 else next(m for m in maps if bin(m).count('1') == len(fields))
-    return bytes([kind]) + u16(map_) + u16(*fields)
+    written = [(bit, value) for value, (bit, _, absent) in zip(marks, MARKS.values()) if value != absent]
+    return bytes([kind]) + u16(map_ + sum(1 << bit for bit, _ in written), *fields, *(value for _, value in written))
 
 
-def write(counts, concepts, statements):
-    """The bytes of a book from records given as (kind, field, ..); concept and statement counts are theirs."""
+def write(counts, concepts, statements, marks=None):
+    """The bytes of a book from records given as (kind, field, ..), the marks of the statements apart; concept and
+    statement counts are theirs."""
     counts = (*counts[:3], len(concepts), len(statements))
-    return header(counts) + b''.join(concept(*c) for c in concepts) + b''.join(statement(*s) for s in statements)
+    marks = [UNMARKED] * len(statements) if marks is None else marks
+    return header(counts) + b''.join(concept(*c) for c in concepts) + b''.join(statement(*s, marks=m) for s, m in zip(statements, marks, strict=True))
 
 
 def cleaned(data):
-    """The bytes of an accepted book without the statements that repeat an earlier one in kind and fields, or Refused."""
+    """The bytes of an accepted book without the statements that repeat an earlier one in kind, fields and marks, or Refused."""
     book = read(data)
-    kept = list(dict.fromkeys((kind, map_, *fields) for kind, map_, fields in book.statements))
-    return write(book.counts, [(kind, *fields) for kind, fields in book.concepts], [(kind, *fields) for kind, _, *fields in kept])
+    records = dict.fromkeys(((kind, *fields), marks) for (kind, _, fields), marks in zip(book.statements, book.marks))
+    concepts = [(kind, *fields) for kind, fields in book.concepts]
+    return write(book.counts, concepts, [record for record, _ in records], [marks for _, marks in records])

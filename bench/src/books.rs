@@ -226,6 +226,7 @@ pub fn all() -> Vec<Named> {
         one("256 left sides over one, 3,837 deep", nested_sides()),
         one("2,000 nested conjunctions, each told", nested_each()),
         one("shared conjunctions, 20 deep", shared(20)),
+        one("4,096 role assertions of 1,023 sources", signed(4096)),
         one("near 1,000,000 facts", near_a_million()),
     ]
 }
@@ -237,6 +238,13 @@ pub fn assertions(statements: u16) -> Book {
     book.tell(book::INVERSE, &[P, Q]);
     (1..statements)
         .for_each(|_| book.tell(book::ROLE_ASSERTION, &[P, random.below(512) as u16, random.below(512) as u16]));
+    book
+}
+
+/// The same, each statement by the next of 1,023 sources.
+fn signed(statements: u16) -> Book {
+    let mut book = assertions(statements);
+    book.statements.iter_mut().enumerate().for_each(|(n, statement)| statement.source = 1 + (n % 1023) as u16);
     book
 }
 

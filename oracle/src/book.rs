@@ -50,11 +50,17 @@ pub struct Concept {
     pub bound: u32,
 }
 
-/// The fields stand in the order of their bits. A role field is twice the role's number, plus 1 for the inverse.
+/// The bit of a statement's map that says that it has a source, and the limit of that.
+const SOURCE: u16 = 0x0100;
+pub const SOURCES: usize = 1024;
+
+/// The fields stand in the order of their bits. A role field is twice the role's number, plus 1 for the inverse. The
+/// source is 0 for the shared book.
 #[derive(Clone, PartialEq, Eq, Debug)]
 pub struct Statement {
     pub kind: u8,
     pub fields: Vec<u16>,
+    pub source: u16,
 }
 
 #[derive(Clone, PartialEq, Eq, Debug, Default)]
@@ -89,7 +95,7 @@ impl Concept {
 
 impl Statement {
     pub fn new(kind: u8, fields: &[u16]) -> Self {
-        Self { kind, fields: fields.to_vec() }
+        Self { kind, fields: fields.to_vec(), source: 0 }
     }
 
     /// How many fields a statement of the kind may have.
@@ -100,6 +106,7 @@ impl Statement {
         }
     }
 
+    /// The bits of the kind's own fields.
     fn map(&self) -> u16 {
         match (self.kind, self.fields.len()) {
             (SUB_ROLE, 3) => 0x0B,
@@ -194,13 +201,19 @@ impl Book {
 
     fn read_statement(&self, cursor: &mut Cursor, concepts: usize) -> Result<Statement, String> {
         let (kind, map) = (cursor.number(1)? as u8, cursor.number(2)? as u16);
-        let mut statement = Statement::new(kind, &vec![0; map.count_ones() as usize]);
-        if !KINDS.contains(&kind) || statement.map() != map {
+        let mut statement = Statement::new(kind, &vec![0; (map & !SOURCE).count_ones() as usize]);
+        if !KINDS.contains(&kind) || statement.map() != map & !SOURCE {
             return Err(format!("a statement has kind {kind} with map {map:02x}"));
         }
         for i in 0..statement.fields.len() {
             let limit = self.limit(statement.sort(i), concepts);
             statement.fields[i] = cursor.below(limit)?;
+        }
+        if map & SOURCE != 0 {
+            statement.source = cursor.below(SOURCES)?;
+            if statement.source == 0 {
+                return Err("a written source 0".into());
+            }
         }
         Ok(statement)
     }
@@ -223,8 +236,9 @@ impl Book {
         }
         for statement in &self.statements {
             out.push(statement.kind);
-            put(&mut out, statement.map());
+            put(&mut out, statement.map() | if statement.source == 0 { 0 } else { SOURCE });
             statement.fields.iter().for_each(|&n| put(&mut out, n));
+            Some(statement.source).filter(|&n| n != 0).into_iter().for_each(|n| put(&mut out, n));
         }
         out
     }
@@ -247,6 +261,12 @@ impl Book {
 
     pub fn tell(&mut self, kind: u8, fields: &[u16]) {
         self.statements.push(Statement::new(kind, fields));
+    }
+
+    /// The book with every statement in the shared book.
+    pub fn shared(mut self) -> Self {
+        self.statements.iter_mut().for_each(|statement| statement.source = 0);
+        self
     }
 
     /// The class of an Atomic.

@@ -1,6 +1,6 @@
 //! Random books: each is fixed by its profile, a seed and its place in the run.
 
-use crate::book::{self, Book, Concept, Statement, CLASSES, INDIVIDUALS, LIMITS, ROLES};
+use crate::book::{self, Book, Concept, Statement, CLASSES, INDIVIDUALS, LIMITS, ROLES, SOURCES};
 use crate::profile::{Mix, Profile, PATH_OF_THREE, PATH_OF_TWO};
 use crate::random::Random;
 
@@ -192,5 +192,20 @@ pub fn book(profile: Profile, seed: u64, place: u64) -> Book {
         let statement = draft.statement();
         draft.book.statements.push(statement);
     }
+    sign(&mut draft.book, &mut Random::new(draft.random.below(usize::MAX) as u64));
     draft.book
+}
+
+/// Gives statements sources: none in half of the books, else from a few numbers or from all. What a book says was drawn
+/// before, so it does not depend on this.
+fn sign(book: &mut Book, random: &mut Random) {
+    if random.percent(50) {
+        return;
+    }
+    let most = [3, SOURCES][random.below(2)];
+    for statement in &mut book.statements {
+        if random.percent(70) {
+            statement.source = random.below(most) as u16;
+        }
+    }
 }

@@ -3,7 +3,7 @@
 //!     oracle compare [--books N] [--seed S] [--profile NAME] [--server COMMAND ..]
 //!         random books through both sides; the last line counts how many were compared fully, partly and not, and
 //!         the disagreements; column `turned` counts the books with a statement that is turned round for the Rust (see
-//!         rust.rs). Ours is the linked library, or the process that COMMAND starts (see ours.rs).
+//!         rust.rs), column `signed` those with a source, of which the Rust is told nothing. Ours is the linked library, or the process that COMMAND starts (see ours.rs).
 //!     oracle small [--server COMMAND ..]
 //!         the same for every small book (see small.rs)
 //!     oracle book PROFILE SEED PLACE
@@ -73,6 +73,7 @@ struct Tally {
     not: u64,
     clashes: u64,
     turned: u64,
+    signed: u64,
     disagreements: u64,
 }
 
@@ -90,6 +91,7 @@ impl Tally {
         self.not += other.not;
         self.clashes += other.clashes;
         self.turned += other.turned;
+        self.signed += other.signed;
         self.disagreements += other.disagreements;
     }
 
@@ -99,6 +101,7 @@ impl Tally {
         self.books += 1;
         self.clashes += u64::from(matches!(ours, oracle::ours::End::Clash { .. }));
         self.turned += u64::from(rust::turns(book));
+        self.signed += u64::from(book.statements.iter().any(|s| s.source != 0));
         match compare(book, &ours) {
             Verdict::Fully(Rule::OneFiller) => self.one_filler += 1,
             Verdict::Fully(_) => self.nothing_brought += 1,
@@ -129,7 +132,7 @@ impl Tally {
 
     fn line(&self, name: &str) -> String {
         format!(
-            "{name:>8} {:>8} {:>10} {:>10} {:>8} {:>8} {:>6} {:>8} {:>6} {:>6}",
+            "{name:>8} {:>8} {:>10} {:>10} {:>8} {:>8} {:>6} {:>8} {:>6} {:>6} {:>6}",
             self.books,
             self.one_filler,
             self.nothing_brought,
@@ -138,6 +141,7 @@ impl Tally {
             self.not,
             self.clashes,
             self.turned,
+            self.signed,
             self.disagreements
         )
     }
@@ -157,8 +161,8 @@ fn show(book: &Book, why: &str, side: &mut dyn Side) {
 fn print_head() {
     println!("         {:>8} {:>21} {:>17}", "", "compared fully", "compared partly");
     println!(
-        " profile {:>8} {:>10} {:>10} {:>8} {:>8} {:>6} {:>8} {:>6} {:>6}",
-        "books", "one filler", "no bring", "", "alike", "not", "clashes", "turned", "disagr"
+        " profile {:>8} {:>10} {:>10} {:>8} {:>8} {:>6} {:>8} {:>6} {:>6} {:>6}",
+        "books", "one filler", "no bring", "", "alike", "not", "clashes", "turned", "signed", "disagr"
     );
 }
 

@@ -90,7 +90,7 @@ pub fn records() -> Vec<Record> {
     for profile in PROFILES {
         let mut found = [[0; 2]; 3];
         for place in 0..SEARCHED {
-            let mut book = generate::book(profile, SEED, place);
+            let mut book = generate::book(profile, SEED, place).shared();
             if profile == Profile::Limits {
                 book = cut(book);
             }

@@ -37,7 +37,7 @@ fn role(field: u16) -> Role {
 /// a statement is turned round to the named role, and says the same: the inverse of p under q becomes p under the
 /// inverse of q, a domain of the inverse of p a range of p, and a range of it a domain.
 fn turn(statement: &mut Statement) {
-    let Statement { kind, fields } = statement;
+    let Statement { kind, fields, .. } = statement;
     match *kind {
         book::SUB_ROLE if fields.len() == 2 && fields[0] % 2 == 1 => fields.iter_mut().for_each(|role| *role ^= 1),
         book::DOMAIN | book::RANGE if fields[0] % 2 == 1 => {
@@ -96,7 +96,8 @@ pub fn ontology(mut book: Book) -> InternalOntology {
     as_written(&book)
 }
 
-/// The book as the Rust takes it. Numbers stay as they are; concepts and statements go in as they are written.
+/// The book as the Rust takes it. Numbers stay as they are; concepts and statements go in as they are written, without
+/// their sources.
 fn as_written(book: &Book) -> InternalOntology {
     let mut pool = ConceptPool::new();
     let mut ids: Vec<ConceptId> = Vec::new();

@@ -59,7 +59,8 @@ impl Book {
                 _ => n.to_string(),
             });
             let name = STATEMENT_NAMES[statement.kind as usize];
-            out += &format!("{name}({})\n", fields.collect::<Vec<_>>().join(", "));
+            let source = Some(statement.source).filter(|&n| n != 0).map_or(String::new(), |n| format!(", source {n}"));
+            out += &format!("{name}({}){source}\n", fields.collect::<Vec<_>>().join(", "));
         }
         out
     }

@@ -40,15 +40,18 @@ Into the book go:
 over owl:Thing, owl:Nothing, classes, and ObjectIntersectionOf, ObjectUnionOf, ObjectComplementOf, ObjectOneOf,
 ObjectSomeValuesFrom, ObjectAllValuesFrom, ObjectHasValue, ObjectHasSelf, ObjectMin-, -Max- and -ExactCardinality,
 and over roles and ObjectInverseOf. Longer lists become pairs: neighbours for SameIndividual, all pairs elsewhere;
-a repeated member counts once. Everything else is left out and counted on standard error; annotations are passed over.
+a repeated member counts once. Everything else is left out and counted on standard error; annotations are passed over,
+but for one: Annotation(rdfs:isDefinedBy :workshop) in an axiom says whose statement it was. Its sources are numbered
+from 1 and named in FILE.names; where that file is there already, a source in it keeps its number. An axiom without one
+is the shared book's, and one with several is stated by each.
 
-A book has at most 256 classes, 64 roles, 512 individuals, 4,096 concepts and 4,096 statements, and for the
+A book has at most 256 classes, 64 roles, 512 individuals, 4,096 concepts, 4,096 statements and 1,023 sources, and for the
 program 65,536 bytes. A declared name counts, also where no axiom uses it.
 '''
 SHOWN = '''A book may have an ObjectIntersectionOf or ObjectUnionOf of one part or none. It is shown as it stands and
 packed again as it is shown, but it is not legal OWL, which wants two parts, and OWL editors refuse it.
 '''
-CLEANED = f'''A repeat has the kind and the fields of an earlier statement; the first of each is kept, and nothing else changes,
+CLEANED = f'''A repeat has the kind, the fields and the source of an earlier statement; the first of each is kept, and nothing else changes,
 so every run of the written book ends as before. The proved library writes it; `{library.BUILD}` builds that.
 '''
 SMALL = f'''The books with one class, one role, two individuals, the concept Atomic 0 and at most two statements: 3,783 of
@@ -67,13 +70,24 @@ def write_file(path, data):
         raise Stop(NOT_RUN, f'{path}: cannot be written: {error.strerror}') from None
 
 
-def packed(path, strict, most_bytes=MOST_BYTES):
+def known_sources(path):
+    """The names of the sources in a names file, if there is one: they keep their numbers."""
+    if not pathlib.Path(path).exists():
+        return {}
+    list_ = Source(path, decoded(path, read_bytes(path)))
+    try:
+        return names.read_sources(list_.text)
+    except Fault as fault:
+        raise Stop(AT_FAULT, *list_.said(fault)) from None
+
+
+def packed(path, strict, most_bytes=MOST_BYTES, known=()):
     """A file as a Packer that a book can hold; what is left out is counted on standard error."""
     source = Source.of(path)
     try:
         if strict and source.left_out:
             raise Fault(f'a book cannot hold this, {source.left_out[0]}')
-        packer = Packer(source.text)
+        packer = Packer(source.text, known)
         packer.pack(strict)
     except Fault as fault:
         raise Stop(AT_FAULT, *source.said(fault)) from None
@@ -89,11 +103,12 @@ def packed(path, strict, most_bytes=MOST_BYTES):
 
 
 def pack(args):
-    packer = packed(args.file, args.strict)
-    stem, data = args.out or re.sub(SUFFIX, '', args.file), packer.data()
+    stem = args.out or re.sub(SUFFIX, '', args.file)
+    packer = packed(args.file, args.strict, known=known_sources(stem + '.names'))
+    data = packer.data()
     write_file(pathlib.Path(stem + '.book'), data)
     write_file(pathlib.Path(stem + '.names'), names.write(packer.names()).encode())
-    print(f'{stem}.book: {summary(f.read(data).counts)}, {counted(len(data), "byte")}; names in {stem}.names')
+    print(f'{stem}.book: {summary(f.read(data))}, {counted(len(data), "byte")}; names in {stem}.names')
     return DONE
 
 
@@ -213,7 +228,7 @@ def arguments():
     made = command('pack', pack, 'writes FILE.book, and FILE.names with the name of each number', PACKED)
     made.add_argument('--out', metavar='STEM', help='write STEM.book and STEM.names instead')
     made = command('show', show, 'prints a book in functional-style syntax', SHOWN, file='FILE.book', strict=False)
-    made.add_argument('--names', metavar='FILE.names', help='names for the numbers; book:C0, book:R0, book:i0 and so on else')
+    made.add_argument('--names', metavar='FILE.names', help='names for the numbers; book:C0, book:R0, book:i0, book:s1 and so on else')
     made = command('clean', clean, 'writes a book without the statements that repeat an earlier one', CLEANED, file='FILE.book', strict=False)
     made.add_argument('-o', '--out', metavar='OUT', help='the file to write; FILE.clean.book else')
     made = command('small', small, 'shows a book of the list of every small book, or writes all of them', SMALL, file=None, strict=False)

@@ -7,13 +7,13 @@ from collections import namedtuple
 import book_format as f
 
 from . import library
-from .text import counted, document
+from .text import counted, document, sourced
 from .tokens import Fault
 
 FINISHED, CLASH, SPENT, REFUSED = 0, 3, 4, 5  # exit statuses
 NUMBER = '[0-9]{1,9}'
 CAUSES = {
-    4: 'the book ends before a record is complete', 5: 'header bit 5 to 7, or a written count 0', 6: 'a count above its limit',
+    4: 'the book ends before a record is complete', 5: 'header bit 5 to 7, or a written count or source 0', 6: 'a count above its limit',
     7: 'an unknown kind', 8: 'a map that its kind does not have', 9: 'a number out of range', 10: 'bytes behind the last statement',
     11: "more same pairs than the program's list holds (2,000 for saturate)",
 }
@@ -74,43 +74,52 @@ def edge(role, a, b):
 
 
 def told(book):
-    """What a book says outright: assertions (rule 1), and SameIndividual as pairs, lower number first."""
-    out = set()
-    for kind, _, v in book.statements:
-        if kind == f.ROLE_ASSERTION:
-            out.add(edge(*v))
-        elif kind == f.SAME:
-            out.add(('s', *sorted(v)))
-        elif kind == f.CLASS_ASSERTION:
-            seen, waiting = set(), [v[0]]
-            while waiting:
-                c = waiting.pop()
-                kind_, fields = book.concepts[c]
-                if kind_ == f.AND and c not in seen:
-                    waiting += fields
-                elif kind_ == f.ATOMIC:
-                    out.add(('t', v[1], fields[0]))
-                elif kind_ == f.SOME and book.concepts[fields[1]][0] == f.NOMINAL:
-                    out.add(edge(fields[0], v[1], book.concepts[fields[1]][1][0]))
-                seen.add(c)
+    """What a book says outright: assertions (rule 1), and SameIndividual as pairs, lower number first; of each, the sources
+    that say it, 0 for the shared book."""
+    out = {}
+    for (kind, _, v), marks in zip(book.statements, book.marks):
+        for fact in said(book, kind, v):
+            out.setdefault(fact, set()).add(marks.source)
     return out
 
+
+def said(book, kind, v):
+    """What a statement says outright."""
+    if kind == f.ROLE_ASSERTION:
+        yield edge(*v)
+    elif kind == f.SAME:
+        yield 's', *sorted(v)
+    elif kind == f.CLASS_ASSERTION:
+        seen, waiting = set(), [v[0]]
+        while waiting:
+            c = waiting.pop()
+            kind_, fields = book.concepts[c]
+            if kind_ == f.AND and c not in seen:
+                waiting += fields
+            elif kind_ == f.ATOMIC:
+                yield 't', v[1], fields[0]
+            elif kind_ == f.SOME and book.concepts[fields[1]][0] == f.NOMINAL:
+                yield edge(fields[0], v[1], book.concepts[fields[1]][1][0])
+            seen.add(c)
 
 def tally(types, edges, pairs):
     return ', '.join([counted(types, 'type'), counted(edges, 'edge'), counted(pairs, 'same pair')])
 
 
-def section(title, facts, names):
-    """The lines of some facts under their title."""
+def section(title, facts, names, outright=None):
+    """The lines of some facts under their title. A told fact has the workshops that say it; where the shared book says it,
+    it has none."""
     yield f'# {title}: ' + tally(*(sum(fact[0] == letter for fact in facts) for letter in 'tes'))
     for fact in facts:
+        sources = outright[fact] if outright else {0}
+        whose = '' if 0 in sources else sourced(names, sorted(sources))
         if fact[0] == 't':
-            yield f'ClassAssertion({names.of(f.CLASSES, fact[2])} {names.of(f.INDIVIDUALS, fact[1])})'
+            yield f'ClassAssertion({whose}{names.of(f.CLASSES, fact[2])} {names.of(f.INDIVIDUALS, fact[1])})'
         elif fact[0] == 'e':
             ends = ' '.join(names.of(f.INDIVIDUALS, i) for i in fact[2:])
-            yield f'ObjectPropertyAssertion({names.of(f.ROLES, fact[1])} {ends})'
+            yield f'ObjectPropertyAssertion({whose}{names.of(f.ROLES, fact[1])} {ends})'
         else:
-            yield f'SameIndividual({" ".join(names.of(f.INDIVIDUALS, i) for i in fact[1:])})'
+            yield f'SameIndividual({whose}{" ".join(names.of(f.INDIVIDUALS, i) for i in fact[1:])})'
 
 
 def advice(counts, budget):
@@ -128,7 +137,7 @@ def write(run, book, size, names, budget=None):
     word, numbers, facts = run
     if word == 'finished':
         outright = told(book)
-        body = [*section('told', [x for x in facts if x in outright], names),
+        body = [*section('told', [x for x in facts if x in outright], names, outright),
                 *section('derived', [x for x in facts if x not in outright], names)]
         return FINISHED, document(names, ['finished: ' + tally(*numbers)], body)
     if word == 'clash':

@@ -1,11 +1,12 @@
 """From trees to a book. Classes, roles and individuals are numbered by first mention, anonymous individuals behind the
-others; equal class expressions have one number, parts before wholes. What a book cannot hold takes no numbers."""
+others; equal class expressions have one number, parts before wholes. What a book cannot hold takes no numbers. The source
+of a statement is the workshop that an annotation of its axiom names; a source keeps the number that it is known by."""
 from itertools import combinations, islice
 
 import book_format as f
 
 from . import words
-from .names import BOTTOM, BUILT_IN_ROLES, TOP, Names
+from .names import BOTTOM, BUILT_IN_ROLES, MOST_SOURCES, TOP, Names, own_source
 from .syntax import OWL, UNNAMED, Name, Node, Number, Parser
 from .tokens import Fault
 
@@ -21,12 +22,15 @@ class LeftOut(Exception):
 
 
 class Packer:
-    def __init__(self, text):
+    def __init__(self, text, known=()):
+        """`known` has the names of sources by their numbers."""
         parser = Parser(text, words.AXIOMS)
         self.items, self.prefixes = parser.document(), parser.prefixes
         # each table: key to (number, offset of the first mention); an individual stays its name until the end
         self.classes, self.roles, self.individuals, self.concepts = self.tables = {}, {}, {}, {}
+        # each statement as (record, its source); a source is its name, or None for the shared book
         self.statements, self.told, self.first_over = [], 0, None
+        self.sources, self.known = {}, dict(known)  # of each source in statements, the offset of its first mention
         self.left_out = {}  # kind: [how often, offset of the first]
 
     def pack(self, strict=False):
@@ -45,13 +49,13 @@ class Packer:
                         table.popitem()
 
     def take(self, node):
-        args = list(node.args)
+        args, annotations = list(node.args), []
         while args and isinstance(args[0], Node) and args[0].word == 'Annotation':
-            del args[0]
+            annotations.append(args.pop(0))
         if node.word == 'Declaration':
             self.declare(node, args)
         elif node.word in words.STATEMENTS:
-            self.state(node, args)
+            self.state(node, args, self.sources_of(annotations))
         elif node.word in words.UNHELD:
             raise LeftOut
         elif node.word not in words.SILENT:
@@ -71,9 +75,20 @@ class Packer:
         if not name.iri.startswith((OWL, *UNREAD)):
             self.number(tables[entity.word], name.iri, name.at)
 
-    def state(self, node, args):
-        """The statements of an axiom: one, or pairs of a list (neighbours for SameIndividual, all pairs elsewhere). A member
-        that is repeated counts once; one that is alone is paired with itself."""
+    def sources_of(self, annotations):
+        """The workshops that annotations of an axiom name, each once; the shared book where there is none."""
+        found = {}
+        for annotation in annotations:
+            args = [arg for arg in annotation.args if not isinstance(arg, Node)]
+            if len(args) == 2 and isinstance(args[0], Name) and args[0].iri == words.SOURCE:
+                if not isinstance(args[1], Name) or args[1].iri.startswith('_:'):
+                    raise LeftOut('an rdfs:isDefinedBy that is no name')
+                found.setdefault(args[1].iri, args[1].at)
+        return found or {None: None}
+
+    def state(self, node, args, sources):
+        """The statements of an axiom, for each of its sources: one, or pairs of a list (neighbours for SameIndividual, all
+        pairs elsewhere). A member that is repeated counts once; one that is alone is paired with itself."""
         kind, form = words.STATEMENTS[node.word]
         words.check_form(node, form, args)
         if form[-1] == '2':
@@ -81,20 +96,23 @@ class Packer:
             members *= 2 if len(members) == 1 else 1
             n = len(members)
             if kind == f.SAME:
-                self.tell(((kind, *pair) for pair in zip(members, members[1:])), n - 1, node.at)
+                self.tell(((kind, *pair) for pair in zip(members, members[1:])), n - 1, node.at, sources)
             else:
-                self.tell(((kind, *pair) for pair in combinations(members, 2)), n * (n - 1) // 2, node.at)
+                self.tell(((kind, *pair) for pair in combinations(members, 2)), n * (n - 1) // 2, node.at, sources)
         else:
             fields = [field for letter, arg in zip(form, args) for field in self.fields(letter, arg)]
-            self.tell([(kind, *fields)], 1, node.at)
+            self.tell([(kind, *fields)], 1, node.at, sources)
 
-    def tell(self, records, count, at):
+    def tell(self, records, count, at, sources):
         """Keeps statements as far as a book has room; the others are counted."""
         room = f.LIMITS[f.STATEMENTS] - len(self.statements)
-        if self.first_over is None and count > room:
+        if self.first_over is None and count * len(sources) > room:
             self.first_over = at
-        self.statements += islice(records, room)
-        self.told += count
+        self.statements += islice(((record, source) for record in records for source in sources), room)
+        self.told += count * len(sources)
+        for source, mentioned in sources.items():
+            if source:
+                self.sources.setdefault(source, mentioned)
 
     def fields(self, letter, tree):
         """The fields of one argument: one, or the roles of a chain."""
@@ -193,10 +211,29 @@ class Packer:
             return self.kept(node, words.CONCEPTS[word][0], role, inner, bound)
         return self.kept(node, words.CONCEPTS[word][0], *fields, *parts)
 
+    def source_numbers(self):
+        """The numbers of the sources: known ones keep theirs, book:s7 is 7, and the others have the lowest that are free, by
+        first mention. A known source stays, also where no statement has it now."""
+        numbers = {name: n for n, name in self.known.items()}
+        numbers |= {name: own_source(name) for name in self.sources if own_source(name)}
+        taken = set(numbers.values())
+        free = (n for n in range(1, f.LIMITS[f.STATEMENTS] + MOST_SOURCES) if n not in taken)
+        for name in self.sources:
+            if name not in numbers:
+                numbers[name] = next(free)
+        return numbers
+
+    def numbered_sources(self):
+        """The sources by number; one that is known goes by its known name."""
+        out = {}
+        for name, n in self.source_numbers().items():
+            out.setdefault(n, name)
+        return out
+
     def names(self):
         """The names by number."""
         return Names(self.prefixes, list(self.classes), list(self.roles),
-                     sorted(self.individuals, key=lambda name: name.startswith('_:')))
+                     sorted(self.individuals, key=lambda name: name.startswith('_:')), self.numbered_sources())
 
     def over(self, most_bytes=MOST_BYTES):
         """A fault for each limit of a book that is exceeded."""
@@ -210,6 +247,11 @@ class Packer:
         if self.told > limit:
             faults.append(Fault(f'{self.told:,} statements, and a book has at most {limit:,}; this is the first too many '
                                 '(longer lists become pairs)', self.first_over))
+        for n, name in self.numbered_sources().items():
+            if n > MOST_SOURCES:
+                faults.append(Fault(f'{len(self.numbered_sources()):,} sources, and a book has at most {MOST_SOURCES:,}; '
+                                    f'{names.short(name)} is the first too many', self.sources[name]))
+                break
         if not faults and most_bytes and len(self.data()) > most_bytes:
             faults.append(Fault(f'{len(self.data()):,} bytes, and a book for the program has at most {most_bytes:,}; '
                                 'conclude --budget N takes longer ones'))
@@ -219,5 +261,7 @@ class Packer:
         """The bytes of the book, where no limit of its counts is exceeded."""
         number = {name: n for n, name in enumerate(self.names().lists[f.INDIVIDUALS])}
         concepts, statements = ([tuple(number.get(x, x) for x in record) for record in records]
-                                for records in (self.concepts, self.statements))
-        return f.write([len(table) for table in self.tables[:3]], concepts, statements)
+                                for records in (self.concepts, [record for record, _ in self.statements]))
+        sources = self.source_numbers()
+        marks = [f.Marks(sources[source]) if source else f.UNMARKED for _, source in self.statements]
+        return f.write([len(table) for table in self.tables[:3]], concepts, statements, marks)

@@ -14,10 +14,16 @@ def counted(n, one, many=None):
     return f'{n:,} {one if n == 1 else many or one + "s"}'
 
 
-def summary(counts):
-    """The counts of a book's header in words."""
-    nouns = ('role', 'individual', 'concept', 'statement')
-    return ', '.join([counted(counts[0], 'class', 'classes'), *map(counted, counts[1:], nouns)])
+def summary(book):
+    """The counts of a book's header in words, and how many sources its statements have."""
+    nouns, sources = ('role', 'individual', 'concept', 'statement'), {marks.source for marks in book.marks} - {0}
+    counts = [counted(book.counts[0], 'class', 'classes'), *map(counted, book.counts[1:], nouns)]
+    return ', '.join(counts + [counted(len(sources), 'source')] * bool(sources))
+
+
+def sourced(names, sources):
+    """The annotations that name sources, with a space behind each."""
+    return ''.join(f'Annotation({names.short(words.SOURCE)} {names.source(n)}) ' for n in sources)
 
 
 def document(names, head, body):
@@ -35,12 +41,12 @@ class Writer:
     def show(self):
         """The whole book as a document."""
         counts = self.book.counts
-        head, unshown = [summary(counts)], counts[f.CONCEPTS] - self.nodes()
+        head, unshown = [summary(self.book)], counts[f.CONCEPTS] - self.nodes()
         if unshown:
             head.append(f'not shown, since no statement leads there: {counted(unshown, "concept")}')
         body = [f'Declaration({ENTITIES[kind]}({self.names.of(kind, n)}))'
                 for kind in range(3) for n in range(counts[kind]) if not self.names.lists[kind][n].startswith('_:')]
-        body += [self.statement(*statement) for statement in self.book.statements]
+        body += [self.statement(*statement, marks) for statement, marks in zip(self.book.statements, self.book.marks)]
         return document(self.names, head, body)
 
     def nodes(self):
@@ -60,8 +66,8 @@ class Writer:
                 used.update(parts(*self.book.concepts[c]))
         return len(used)
 
-    def statement(self, kind, map_, v):
-        n = self.names
+    def statement(self, kind, map_, v, marks):
+        n, whose = self.names, [marks.source] if marks.source else []
         if kind == f.SUB_ROLE:
             *path, sup = map(n.role, v)
             args = [path[0] if len(path) == 1 else f'ObjectPropertyChain({" ".join(path)})', sup]
@@ -69,7 +75,7 @@ class Writer:
             form = words.STATEMENTS[words.STATEMENT_WORDS[kind]][1]
             written = {'C': self.concept, 'R': n.role, 'I': lambda i: n.of(f.INDIVIDUALS, i)}
             args = [written[letter](field) for letter, field in zip(form[0] * 2 if form[-1] == '2' else form, v)]
-        return f'{words.STATEMENT_WORDS[kind]}({" ".join(args)})'
+        return f'{words.STATEMENT_WORDS[kind]}({sourced(n, whose)}{" ".join(args)})'
 
     def concept(self, c):
         """A concept as text. What waits is kept in a list, so depth is free."""

@@ -28,6 +28,9 @@ COMPOSED = {'ObjectOneOf': 'I+', 'ObjectHasValue': 'RI', 'ObjectExactCardinality
 STATEMENT_WORDS = {kind: word for word, (kind, _) in STATEMENTS.items()}
 CONCEPT_WORDS = {kind: word for word, (kind, _) in CONCEPTS.items()}
 
+# the property of an annotation that says whose statement an axiom was
+SOURCE = 'http://www.w3.org/2000/01/rdf-schema#isDefinedBy'
+
 # without a meaning for worlds, so nothing is lost
 SILENT = {'Annotation', 'AnnotationAssertion', 'SubAnnotationPropertyOf', 'AnnotationPropertyDomain', 'AnnotationPropertyRange'}
 # what no statement of the book says, with the way to say it where the rules act on that

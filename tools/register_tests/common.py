@@ -63,7 +63,8 @@ def some_book(rng):
              (f.DOMAIN, 'RC'), (f.RANGE, 'RC'), (f.SAME, 'II'), (f.CLASS_ASSERTION, 'CI'), (f.ROLE_ASSERTION, 'RII'), (f.ROLE_ASSERTION, 'RII')]
     if limits['C'] or counts[1] or counts[2]:
         statements = [record(forms) for _ in range(rng.randint(0, 16))]
-    return f.write(counts, concepts, statements)
+    sources = rng.choice([[0], [0, 1, 2], [0, 7, 512, 1023]])
+    return f.write(counts, concepts, statements, [f.Marks(rng.choice(sources)) for _ in statements])
 
 
 class FileCase(unittest.TestCase):

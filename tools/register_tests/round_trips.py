@@ -13,14 +13,14 @@ from .common import EXAMPLES, HEAD, WORKED, packed, register, shown, some_book
 
 
 def meaning(data):
-    """Counts and statements of a book with every concept written out, so that concept numbers do not matter."""
+    """Counts and statements of a book with every concept written out, so that concept numbers do not matter; and sources."""
     book, trees = f.read(data), []
     for kind, v in book.concepts:
         at = {f.NOT: range(1), f.AND: range(len(v)), f.OR: range(len(v))}.get(kind, range(1, 2) if kind >= f.SOME else ())
         trees.append((kind, *(trees[x] if n in at else x for n, x in enumerate(v))))
     places = {f.SUB_CLASS: (0, 1), f.EQUIVALENT: (0, 1), f.DISJOINT: (0, 1), f.DOMAIN: (1,), f.RANGE: (1,), f.CLASS_ASSERTION: (0,)}
     return book.counts[:3], [(kind, *(trees[x] if n in places.get(kind, ()) else x for n, x in enumerate(v)))
-                             for kind, _, v in book.statements]
+                             for kind, _, v in book.statements], book.marks
 
 
 class RoundTrips(unittest.TestCase):

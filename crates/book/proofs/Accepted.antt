@@ -14,17 +14,18 @@ use Rattle.book.specs.declared.concept.ConceptExpr.the-variants.{Top, Bo
 use Rattle.book.specs.declared.statement.Axiom.{Axiom}
 use Rattle.book.specs.declared.statement.SubRolePath.the-variants.{One, Two, Three}
 use Rattle.book.specs.declared.statement.Axiom.the-variants.{SubClassOf, EquivalentClasses, DisjointClasses, InverseObjectProperties, SubObjectPropertyOf, TransitiveRole, SymmetricRole, FunctionalRole, InverseFunctionalRole, ObjectPropertyDomain, ObjectPropertyRange, SameIndividual, ClassAssertion, ObjectPropertyAssertion}
+use Rattle.book.specs.declared.statement.Statement.{Statement}
 use Rattle.book.specs.declared.check.Checked.{Checked}
 use Rattle.book.specs.declared.check.Checked.the-variants as Checked
 use Rattle.book.specs.Read.{Read, value, refusal, several}
 use Rattle.book.specs.Field.{numberAt}
 use Rattle.book.specs.Header.{header, Limits}
 use Rattle.book.specs.Concept.{concept}
-use Rattle.book.specs.Statement.{statement}
+use Rattle.book.specs.Statement.{statement, bodies}
 use Rattle.book.specs.Tree.{Concept, none, more, nth, partTrees, treeOf}
-use Rattle.book.specs.Book.{Book, concepts, book, Decoded, accepted, refused, decoded, decode, conceptOffset, checkOf, BookChecked}
+use Rattle.book.specs.Book.{Book, axioms, concepts, book, Decoded, accepted, refused, decoded, decode, conceptOffset, checkOf, BookChecked}
 use Rattle.book.specs.Reader.{rest}
-use Rattle.book.specs.Within.{Every, ConceptWithin, Within}
+use Rattle.book.specs.Within.{Every, ConceptWithin, Within, StatementWithin}
 use Rattle.book.proofs.Parsing.{came, held, same-value, reached, Forward}
 use Rattle.book.proofs.header.Laws.{header-limits}
 use Rattle.book.proofs.concept.Laws.{concept-within}
@@ -102,22 +103,22 @@ module _ (s : List ℕ) (h : Counts) (at : ℕ) where
           ∙ (sym (List·getD-append (a .0) (treeOf s (a .0) (c .0) ∷ []) Concept.Top j short)
           ∙ ap (λ (l : List Concept). nth l j) (d .0))
 
-several-every : (s : List ℕ) (h : Counts) (k at : ℕ) (xs : List Axiom) (e : ℕ) → several (statement h) k s at ≡ value xs e → Every (Within h) xs × (length xs ≡ k)
+several-every : (s : List ℕ) (h : Counts) (k at : ℕ) (xs : List Statement) (e : ℕ) → several (statement h) k s at ≡ value xs e → Every (StatementWithin h) xs × (length xs ≡ k)
 unfolding several
-several-every s h zero at xs e t = subst (λ (l : List Axiom). Every (Within h) l × (length l ≡ 0)) (same-value [] xs at e t .0) (tt, refl)
+several-every s h zero at xs e t = subst (λ (l : List Statement). Every (StatementWithin h) l × (length l ≡ 0)) (same-value [] xs at e t .0) (tt, refl)
 several-every s h (suc k) at xs e t = step (several-every s h k at)
   where
-    appended : (l : List Axiom) (y : Axiom) → Every (Within h) l → Within h y → Every (Within h) (l ++ (y ∷ []))
+    appended : (l : List Statement) (y : Statement) → Every (StatementWithin h) l → StatementWithin h y → Every (StatementWithin h) (l ++ (y ∷ []))
     appended [] y f g = (g, tt)
     appended (x ∷ l) y f g = (f .0, appended l y (f .1) g)
 
-    step : ((ys : List Axiom) (m : ℕ) → several (statement h) k s at ≡ value ys m → Every (Within h) ys × (length ys ≡ k)) → Every (Within h) xs × (length xs ≡ suc k)
+    step : ((ys : List Statement) (m : ℕ) → several (statement h) k s at ≡ value ys m → Every (StatementWithin h) ys × (length ys ≡ k)) → Every (StatementWithin h) xs × (length xs ≡ suc k)
     step ih =
         let a = came (several (statement h) k s at) _ xs e t in
         let b = came (statement h s (a .1)) _ xs e (a .3) in
         let c = same-value (a .0 ++ (b .0 ∷ [])) xs (b .1) e (b .3) in
         let old = ih (a .0) (a .1) (a .2) in
-        subst (λ (l : List Axiom). Every (Within h) l × (length l ≡ suc k)) (c .0)
+        subst (λ (l : List Statement). Every (StatementWithin h) l × (length l ≡ suc k)) (c .0)
         (appended (a .0) (b .0) (old .0) (statement-within s h (a .1) (b .0) (b .1) (b .2)), length-append (a .0) (b .0 ∷ []) ∙ omega (arith, old .1))
 
 -- what keeps to the counts does so whatever the number of statements
@@ -138,6 +139,18 @@ within-same h m (ObjectPropertyRange r c) w = w
 within-same h m (SameIndividual i j) w = w
 within-same h m (ClassAssertion c i) w = w
 within-same h m (ObjectPropertyAssertion r i j) w = w
+
+pub record-same : (h : Counts) (m : ℕ) (x : Statement) → StatementWithin h x → StatementWithin (record { classes = h .classes; roles = h .roles; individuals = h .individuals; concepts = h .concepts; statements = m }) x
+record-same h m x w = record { body = within-same h m (x .body) (w .body); source-top = w .source-top }
+
+-- what holds of every record's statement
+pub every-body : (h : Counts) (xs : List Statement) → Every (StatementWithin h) xs → Every (Within h) (bodies xs)
+every-body h [] w = tt
+every-body h (x ∷ xs) w = (w .0 .body, every-body h xs (w .1))
+
+pub bodies-length : (xs : List Statement) → length (bodies xs) ≡ length xs
+bodies-length [] = refl
+bodies-length (x ∷ xs) = ap suc (bodies-length xs)
 
 -- a book that is read part by part
 pub decode-of : (w : List ℕ) (B : Book) (at start e : ℕ) → header w 0 ≡ value (B .counts) at → concepts (B .counts) (B .counts .concepts) w at ≡ value (B .concepts) start → several (statement (B .counts)) (B .counts .statements) w start ≡ value (B .statements) e → length w ≤ e → decode w ≡ accepted B
@@ -195,9 +208,15 @@ module _ (s : List ℕ) (b : Book) (whole : decode s ≡ accepted b) where
   pub accepted-statements : length (b .statements) ≡ b .counts .statements
   accepted-statements = several-every s (b .counts) (b .counts .statements) (layout .start) (b .statements) (layout .end) (layout .list) .1
 
-  -- every statement keeps to the counts
-  pub accepted-within : Every (Within (b .counts)) (b .statements)
-  accepted-within = several-every s (b .counts) (b .counts .statements) (layout .start) (b .statements) (layout .end) (layout .list) .0
+  pub accepted-axioms : length (axioms b) ≡ b .counts .statements
+  accepted-axioms = bodies-length (b .statements) ∙ accepted-statements
+
+  -- every record keeps to the counts, and so does what it says
+  pub accepted-records : Every (StatementWithin (b .counts)) (b .statements)
+  accepted-records = several-every s (b .counts) (b .counts .statements) (layout .start) (b .statements) (layout .end) (layout .list) .0
+
+  pub accepted-within : Every (Within (b .counts)) (axioms b)
+  accepted-within = every-body (b .counts) (b .statements) accepted-records
 
   pub offset-is : (k here : ℕ) (ts : List Concept) → concepts (b .counts) k s (layout .at) ≡ value ts here → conceptOffset s k ≡ here
   unfolding conceptOffset
@@ -209,7 +228,7 @@ module _ (s : List ℕ) (b : Book) (whole : decode s ≡ accepted b) where
       let l = layout in
       rw (offset-is (b .counts .concepts) (l .start) (b .concepts) (l .trees))
       (rest-several s (b .counts) (b .counts .statements) (l .start) (b .statements) (l .end) (l .list)
-      ∙ (ap (λ (x : List Axiom). b .statements ++ x) (rest-behind s (b .counts) (l .end) (l .ends)) ∙ append-nil (b .statements)))
+      ∙ (ap (λ (x : List Statement). b .statements ++ x) (rest-behind s (b .counts) (l .end) (l .ends)) ∙ append-nil (b .statements)))
 
   -- the record of each concept is in range, and its tree is the decoded one
   pub accepted-concept : (k : ℕ) → k < b .counts .concepts → ConceptRead s b k

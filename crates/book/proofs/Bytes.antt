@@ -1,5 +1,6 @@
 -- The laws of records as bytes: they are read back; and what is read from bytes is laid out so.
 pub mod Entries
+pub mod Marks
 pub mod Heads
 pub mod Stated
 pub mod Atomics

@@ -1,8 +1,12 @@
 -- Books of 01, decoded by evaluation.
 use Prim.Native.Nat.{ℕ}
 use mathlib.Core.Path.{_≡_, refl}
+use mathlib.Core.Bool.{Bool, true, _&&_}
 use mathlib.Core.List.{List, [], _∷_}
+use lib.Dec.{eqb}
 use Rattle.book.specs.declared.role.Role.the-variants.{Named}
+use Rattle.book.specs.declared.statement.Axiom.{Axiom}
+use Rattle.book.specs.declared.statement.Statement.{Statement}
 use Rattle.book.specs.declared.statement.Axiom.the-variants.{SubClassOf, FunctionalRole, ObjectPropertyRange, ClassAssertion, ObjectPropertyAssertion}
 use Rattle.book.specs.Role.{roleOf}
 use Rattle.book.specs.Read.{several}
@@ -12,7 +16,7 @@ use Rattle.book.specs.Header.{header}
 use Rattle.book.specs.Concept.{conceptStart, partList, bound, conceptTail, conceptRest, concept}
 use Rattle.book.specs.Statement.{statementStart, pathOf, axiomOf, statementRest, statement}
 use Rattle.book.specs.Tree.{Atomic, Nominal, Some, partTrees}
-use Rattle.book.specs.Book.{Book, concepts, book, accepted, refused, decode}
+use Rattle.book.specs.Book.{Book, concepts, book, Decoded, accepted, refused, decode}
 
 -- no bytes, the one byte 00, and a written count 0
 empty : decode [] ≡ refused 4
@@ -46,25 +50,71 @@ worked =
     ∷ 14 ∷ 0xC1 ∷ 0 ∷ 4 ∷ 0 ∷ 5 ∷ 0 ∷ 4 ∷ 0
     ∷ []
 
+-- a statement of the shared book
+abbrev shared : Axiom → Statement
+shared a = record { body = a; source = 0 }
+
 pub workedBook : Book
 workedBook =
     record {
       counts = record { classes = 1; roles = 4; individuals = 7; concepts = 3; statements = 10 };
       concepts = Atomic 0 ∷ Nominal 6 ∷ Some (Named 3) (Nominal 6) ∷ [];
       statements =
-          FunctionalRole (Named 0)
-          ∷ FunctionalRole (Named 1)
-          ∷ ObjectPropertyRange (Named 2) 0
-          ∷ SubClassOf 0 2
-          ∷ ClassAssertion 0 1
-          ∷ ObjectPropertyAssertion (Named 0) 0 1
-          ∷ ObjectPropertyAssertion (Named 0) 0 2
-          ∷ ObjectPropertyAssertion (Named 1) 3 2
-          ∷ ObjectPropertyAssertion (Named 1) 3 4
-          ∷ ObjectPropertyAssertion (Named 2) 5 4
+          shared (FunctionalRole (Named 0))
+          ∷ shared (FunctionalRole (Named 1))
+          ∷ shared (ObjectPropertyRange (Named 2) 0)
+          ∷ shared (SubClassOf 0 2)
+          ∷ shared (ClassAssertion 0 1)
+          ∷ shared (ObjectPropertyAssertion (Named 0) 0 1)
+          ∷ shared (ObjectPropertyAssertion (Named 0) 0 2)
+          ∷ shared (ObjectPropertyAssertion (Named 1) 3 2)
+          ∷ shared (ObjectPropertyAssertion (Named 1) 3 4)
+          ∷ shared (ObjectPropertyAssertion (Named 2) 5 4)
           ∷ [];
     }
 
 worked-decodes : decode worked ≡ accepted workedBook
 unfolding worked workedBook decode book header concepts several concept conceptStart conceptRest conceptTail partList bound statement statementStart statementRest axiomOf pathOf statementAllows roleOf fields fieldsFrom field byte twoBytes fourBytes partTrees
 worked-decodes = refl
+
+-- Sources: of a book of two individuals with one statement, `0 same as 1`, the high byte of its map and what stands behind its own fields, with
+-- the refusal, or 0 where the book is accepted.
+record Case : Type 0 where
+  high : ℕ
+  rest : List ℕ
+  answer : ℕ
+
+abbrev case : ℕ → List ℕ → ℕ → Case
+case high rest answer = record { high = high; rest = rest; answer = answer }
+
+abbrev answerOf : Decoded → ℕ
+answerOf (accepted b) = 0
+answerOf (refused n) = n
+
+abbrev marked : Case → List ℕ
+marked c = 0x14 ∷ 2 ∷ 0 ∷ 1 ∷ 0 ∷ 12 ∷ 0xC0 ∷ c .high ∷ 0 ∷ 0 ∷ 1 ∷ 0 ∷ c .rest
+
+abbrev cases : List Case
+cases =
+    case 0 [] 0
+    ∷ case 1 (1 ∷ 0 ∷ []) 0
+    ∷ case 1 (255 ∷ 3 ∷ []) 0
+    ∷ case 1 (0 ∷ 0 ∷ []) 5  -- a written source 0
+    ∷ case 1 (0 ∷ 4 ∷ []) 9  -- source 1,024
+    ∷ case 1 (255 ∷ 255 ∷ []) 9
+    ∷ case 1 [] 4
+    ∷ case 1 (0 ∷ []) 4
+    ∷ case 1 (1 ∷ 0 ∷ 0 ∷ []) 10
+    ∷ case 0 (1 ∷ 0 ∷ []) 10
+    ∷ case 2 (1 ∷ 0 ∷ []) 8
+    ∷ case 3 (1 ∷ 0 ∷ []) 8
+    ∷ case 255 [] 8
+    ∷ []
+
+abbrev answers : List Case → Bool
+answers [] = true
+answers (c ∷ cs) = eqb (answerOf (decode (marked c))) (c .answer) && answers cs
+
+sources-read : answers cases ≡ true
+unfolding decode book header concepts several statement statementStart statementRest axiomOf pathOf statementAllows roleOf fields fieldsFrom field byte twoBytes
+sources-read = refl

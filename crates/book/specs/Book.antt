@@ -6,6 +6,7 @@ use lib.ListN.{length, getD}
 use lib.Dec.{leb}
 use Rattle.book.specs.declared.header.Counts.{Counts}
 use Rattle.book.specs.declared.statement.Axiom.{Axiom}
+use Rattle.book.specs.declared.statement.Statement.{Statement}
 use Rattle.book.specs.declared.field.Passed.{Passed}
 use Rattle.book.specs.declared.field.Passed.the-variants.{Next as On}
 use Rattle.book.specs.declared.check.Checked.{Checked}
@@ -14,13 +15,17 @@ use Rattle.book.specs.Read.{Read, value, refusal, onward, Parser, _>>=_,
 use Rattle.book.specs.Field.{asPassed, passed}
 use Rattle.book.specs.Header.{header}
 use Rattle.book.specs.Concept.{concept}
-use Rattle.book.specs.Statement.{statement}
+use Rattle.book.specs.Statement.{statement, bodies}
 use Rattle.book.specs.Tree.{Concept, treeOf}
 
 pub record Book : Type 0 where
   pub counts : Counts
   pub concepts : List Concept
-  pub statements : List Axiom
+  pub statements : List Statement
+
+-- what a book says, whose statement it was apart
+abbrev pub axioms : Book → List Axiom
+axioms b = bodies (b .statements)
 
 -- items are numbered from 0: the concepts below k, each a tree over those before it
 unfoldable pub concepts : Counts → ℕ → Parser (List Concept)

@@ -10,6 +10,7 @@ use Rattle.book.specs.declared.statement.SubRolePath.{SubRolePath}
 use Rattle.book.specs.declared.statement.SubRolePath.the-variants.{One, Two, Three}
 use Rattle.book.specs.declared.statement.Axiom.{Axiom}
 use Rattle.book.specs.declared.statement.Axiom.the-variants.{SubClassOf, EquivalentClasses, DisjointClasses, InverseObjectProperties, SubObjectPropertyOf, TransitiveRole, SymmetricRole, FunctionalRole, InverseFunctionalRole, ObjectPropertyDomain, ObjectPropertyRange, SameIndividual, ClassAssertion, ObjectPropertyAssertion}
+use Rattle.book.specs.declared.statement.Statement.{Statement}
 use Rattle.book.specs.declared.role.Role.{Role}
 use Rattle.book.specs.Read.{pick}
 use Rattle.book.specs.Role.{fieldOf}
@@ -44,9 +45,13 @@ bytesOf [] = []
 bytesOf (gap ∷ ps) = bytesOf ps
 bytesOf (put v ∷ ps) = v % 256 ∷ v / 256 ∷ bytesOf ps
 
+-- a field with a value for an absent one, which is never written
+abbrev pub mark : ℕ → ℕ → Place
+mark absent v = pick (eqb v absent) gap (put v)
+
 -- the header: an absent count is 0, and no count is written as 0
 abbrev pub count : ℕ → Place
-count c = pick (eqb c 0) gap (put c)
+count c = mark 0 c
 
 abbrev pub countPlaces : Counts → List Place
 countPlaces h = count (h .classes) ∷ count (h .roles) ∷ count (h .individuals) ∷ count (h .concepts) ∷ count (h .statements) ∷ replicate 11 gap
@@ -90,18 +95,32 @@ formOf (SameIndividual i j) = form 12 (gap ∷ gap ∷ gap ∷ gap ∷ gap ∷ g
 formOf (ClassAssertion c i) = form 13 (gap ∷ gap ∷ gap ∷ gap ∷ put c ∷ gap ∷ put i ∷ [])
 formOf (ObjectPropertyAssertion r i j) = form 14 (role r ∷ gap ∷ gap ∷ gap ∷ gap ∷ gap ∷ put i ∷ put j ∷ [])
 
+-- bit 8 on: the source
+abbrev pub marks : Statement → List Place
+marks x = mark 0 (x .source) ∷ []
+
+-- n places, gaps behind those that there are
+abbrev pub padded : ℕ → List Place → List Place
+padded zero ps = ps
+padded (suc n) [] = gap ∷ padded n []
+padded (suc n) (p ∷ ps) = p ∷ padded n ps
+
+-- the whole record: the places of what it says are those of bits 0 to 7
+abbrev pub wholeOf : Statement → Form
+wholeOf x = form (formOf (x .body) .kind) (padded 8 (formOf (x .body) .places) ++ marks x)
+
 abbrev pub formBytes : Form → List ℕ
 formBytes f = f .kind ∷ mapOf (f .places) % 256 ∷ mapOf (f .places) / 256 ∷ bytesOf (f .places)
 
-unfoldable pub statementBytes : Axiom → List ℕ
-statementBytes x = formBytes (formOf x)
+unfoldable pub statementBytes : Statement → List ℕ
+statementBytes x = formBytes (wholeOf x)
 
 -- one after the other
-unfoldable pub statementsBytes : List Axiom → List ℕ
+unfoldable pub statementsBytes : List Statement → List ℕ
 statementsBytes [] = []
 statementsBytes (x ∷ xs) = statementBytes x ++ statementsBytes xs
 
--- a repeat: the same kind, and the same numbers in the same places
+-- a repeat: the same kind, and the same numbers in the same places, the source among them
 abbrev pub samePlace : Place → Place → Bool
 samePlace gap gap = true
 samePlace gap (put w) = false
@@ -114,8 +133,8 @@ samePlaces [] (q ∷ qs) = false
 samePlaces (p ∷ ps) [] = false
 samePlaces (p ∷ ps) (q ∷ qs) = samePlace p q && samePlaces ps qs
 
-unfoldable pub repeats : Axiom → Axiom → Bool
-repeats x y = eqb (formOf x .kind) (formOf y .kind) && samePlaces (formOf x .places) (formOf y .places)
+unfoldable pub repeats : Statement → Statement → Bool
+repeats x y = eqb (wholeOf x .kind) (wholeOf y .kind) && samePlaces (wholeOf x .places) (wholeOf y .places)
 
 -- what the places put into a record's values, from bit k on
 abbrev pub fill : ℕ → List Place → List ℕ → List ℕ

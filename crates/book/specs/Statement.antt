@@ -1,6 +1,6 @@
 -- Statement records.
-use Prim.Native.Nat.{ℕ, _*_}
-use mathlib.Core.List.{List, [], _∷_}
+use Prim.Native.Nat.{ℕ, _*_, _%_}
+use mathlib.Core.List.{List, [], _∷_, _++_}
 use mathlib.Core.Bool.{not}
 use lib.ListN.{getD, replicate}
 use lib.Dec.{ltb, eqb}
@@ -10,6 +10,7 @@ use Rattle.book.specs.declared.statement.SubRolePath.{SubRolePath}
 use Rattle.book.specs.declared.statement.SubRolePath.the-variants.{One, Two, Three}
 use Rattle.book.specs.declared.statement.Axiom.{Axiom}
 use Rattle.book.specs.declared.statement.Axiom.the-variants.{SubClassOf, EquivalentClasses, DisjointClasses, InverseObjectProperties, SubObjectPropertyOf, TransitiveRole, SymmetricRole, FunctionalRole, InverseFunctionalRole, ObjectPropertyDomain, ObjectPropertyRange, SameIndividual, ClassAssertion, ObjectPropertyAssertion}
+use Rattle.book.specs.declared.statement.Statement.{Statement}
 use Rattle.book.specs.declared.statement.ReadStatement.{ReadStatement}
 use Rattle.book.specs.declared.statement.ReadStatement.the-variants.{Next, Refused}
 use Rattle.book.specs.declared.role.Role.{Role}
@@ -17,19 +18,20 @@ use Rattle.book.specs.Role.{roleOf}
 use Rattle.book.specs.Read.{pick, Read, value, refusal, Parser, _>>=_, _>>_, give, unless}
 use Rattle.book.specs.Field.{byte, twoBytes, fields}
 use Rattle.book.specs.Table.{statementAllows}
-use Rattle.book.specs.Concept.{noValues}
 
--- a kind and its map: refusal 7 for an unknown kind, before its map is due, and 8 for a map that is not one of the kind's
+-- A kind and its map: refusal 7 for an unknown kind, before its map is due, and 8 for a map that is not one of the kind's. Bit 8 may stand with
+-- every map of every kind: the bits below it are held against the kind's table, and none may stand above.
 unfoldable pub statementStart : Parser Start
 statementStart = do
   kind ← byte
   unless (not (eqb kind 0)) 7
   unless (ltb kind 15) 7
   map ← twoBytes
-  unless (statementAllows kind map) 8
+  unless (ltb map 512) 8
+  unless (statementAllows kind (map % 256)) 8
   give (record { kind = kind; map = map })
 
--- bits 0 to 3 are roles, 4 and 5 concepts, 6 and 7 individuals
+-- bits 0 to 3 are roles, 4 and 5 concepts, 6 and 7 individuals, 8 is a source
 abbrev pub statementLimits : Counts → List ℕ
 statementLimits h =
     2 * h .roles
@@ -40,7 +42,12 @@ statementLimits h =
     ∷ h .concepts
     ∷ h .individuals
     ∷ h .individuals
-    ∷ replicate 8 0
+    ∷ 1024
+    ∷ replicate 7 0
+
+-- No source is 0, the shared book. A kind's own fields have no value that stands for an absent one.
+abbrev pub unmarked : List ℕ
+unmarked = replicate 8 65536 ++ (0 ∷ replicate 7 65536)
 
 -- the path of a SubObjectPropertyOf, whose super-role stands at bit 3
 unfoldable pub pathOf : ℕ → Role → Role → Role → SubRolePath
@@ -81,17 +88,26 @@ axiomKinds map v =
     ∷ []
 
 unfoldable pub axiomOf : Start → List ℕ → Axiom
-axiomOf start v = getD (axiomKinds (start .map) v) (start .kind) (assertion v)
+axiomOf start v = getD (axiomKinds (start .map % 256) v) (start .kind) (assertion v)
 
--- from the first field on: each field is complete (4), then in range (9)
-unfoldable pub statementRest : Counts → Start → Parser Axiom
+-- the whole record: what it says, and whose statement it was
+abbrev pub statementOf : Start → List ℕ → Statement
+statementOf start v = record { body = axiomOf start v; source = getD v 8 0 }
+
+-- from the first field on: each field is complete (4), then not the value of an absent one (5), then in range (9)
+unfoldable pub statementRest : Counts → Start → Parser Statement
 statementRest h start = do
-  v ← fields (start .map) (statementLimits h) noValues 9
-  give (axiomOf start v)
+  v ← fields (start .map) (statementLimits h) unmarked 9
+  give (statementOf start v)
 
-unfoldable pub statement : Counts → Parser Axiom
+unfoldable pub statement : Counts → Parser Statement
 statement h = statementStart >>= statementRest h
 
-abbrev pub asStatement : ReadStatement → Read Axiom
+-- what the statements say
+abbrev pub bodies : List Statement → List Axiom
+bodies [] = []
+bodies (x ∷ xs) = x .body ∷ bodies xs
+
+abbrev pub asStatement : ReadStatement → Read Statement
 asStatement (Next x next) = value x next
 asStatement (Refused n) = refusal n

@@ -11,6 +11,7 @@ use Rattle.book.specs.declared.statement.SubRolePath.{SubRolePath}
 use Rattle.book.specs.declared.statement.SubRolePath.the-variants.{One, Two, Three}
 use Rattle.book.specs.declared.statement.Axiom.{Axiom}
 use Rattle.book.specs.declared.statement.Axiom.the-variants.{SubClassOf, EquivalentClasses, DisjointClasses, InverseObjectProperties, SubObjectPropertyOf, TransitiveRole, SymmetricRole, FunctionalRole, InverseFunctionalRole, ObjectPropertyDomain, ObjectPropertyRange, SameIndividual, ClassAssertion, ObjectPropertyAssertion}
+use Rattle.book.specs.declared.statement.Statement.{Statement}
 use Rattle.book.specs.Role.{roleId}
 use Rattle.book.specs.Field.{numberAt}
 
@@ -62,3 +63,8 @@ Within h (ObjectPropertyRange r c) = RoleWithin h r × (c < h .concepts)
 Within h (SameIndividual i j) = (i < h .individuals) × (j < h .individuals)
 Within h (ClassAssertion c i) = (c < h .concepts) × (i < h .individuals)
 Within h (ObjectPropertyAssertion r i j) = RoleWithin h r × (i < h .individuals) × (j < h .individuals)
+
+-- a whole record: what it says keeps to the counts, and its source is one of 0 to 1,023
+pub record StatementWithin (h : Counts) (x : Statement) : Type 0 where
+  pub body : Within h (x .body)
+  pub source-top : x .source < 1024

@@ -1,8 +1,8 @@
 // Statement records: the axioms of a register.
 ghost use mathlib.Core.Path.{_≡_};
-ghost use Rattle.book.specs.Statement.{statementStart, pathOf, axiomOf, statementRest, statement, asStatement};
+ghost use Prim.Native.Nat.{_%_};
+ghost use Rattle.book.specs.Statement.{statementStart, pathOf, axiomOf, statementOf, statementRest, statement, asStatement};
 ghost use Rattle.book.specs.Concept.{asStart};
-use super::concept::NO_VALUES;
 use super::field::Fields;
 use super::field::Passed;
 use super::field::ReadField;
@@ -60,8 +60,14 @@ pub enum Axiom {
     },
 }
 
+// A statement record: what it says, and whose statement it was (0: the shared book).
+pub struct Statement {
+    pub body: Axiom,
+    pub source: u32,
+}
+
 pub enum ReadStatement {
-    Next(Axiom, usize),
+    Next(Statement, usize),
     Refused(u8),
 }
 
@@ -82,7 +88,10 @@ fn statement_start(book: &[u8], at: usize) -> ReadStart
             match second {
                 ReadField::Refused(n) => ReadStart::Refused(n),
                 ReadField::Next(map, next) => {
-                    let allowed = statement_allows(kind, map);
+                    if 512 <= map {
+                        return ReadStart::Refused(8);
+                    }
+                    let allowed = statement_allows(kind, map % 256);
                     if allowed {
                         return ReadStart::Next(Start { kind, map }, next);
                     }
@@ -94,12 +103,13 @@ fn statement_start(book: &[u8], at: usize) -> ReadStart
 }
 
 fn path_of(map: u32, r: Role, s: Role, t: Role) -> SubRolePath
-    ensures { λ p. ⌜ p ≡ pathOf map r s t ⌝ }
+    ensures { λ p. ⌜ p ≡ pathOf (map % 256) r s t ⌝ }
 {
-    if map == 0x09 {
+    let low = map % 256;
+    if low == 0x09 {
         return SubRolePath::One(r);
     }
-    if map == 0x0B {
+    if low == 0x0B {
         return SubRolePath::Two(r, s);
     }
     SubRolePath::Three(r, s, t)
@@ -143,6 +153,36 @@ fn axiom_of(start: Start, f: Fields) -> Axiom
     }
 }
 
+fn statement_of(start: Start, f: Fields) -> Statement
+    ensures { λ x. ⌜ x ≡ statementOf start (f .values) ⌝ }
+{
+    let source = f.values[8];
+    Statement {
+        body: axiom_of(start, f),
+        source,
+    }
+}
+
+// A source is never written as 0. The kind's own fields have no value that stands for an absent one.
+const UNMARKED: [u32; 16] = [
+    65536, // roles
+    65536,
+    65536,
+    65536,
+    65536, // concepts
+    65536,
+    65536, // individuals
+    65536,
+    0, // source
+    65536,
+    65536,
+    65536,
+    65536,
+    65536,
+    65536,
+    65536,
+];
+
 // From the first field on.
 fn statement_rest(book: &[u8], at: usize, start: Start, counts: Counts) -> ReadStatement
     ensures { λ r. ⌜ asStatement r ≡ statementRest counts start (now (book .entry)) at ⌝ }
@@ -159,7 +199,7 @@ fn statement_rest(book: &[u8], at: usize, start: Start, counts: Counts) -> ReadS
         concepts,
         individuals,
         individuals,
-        0,
+        1024,
         0,
         0,
         0,
@@ -168,12 +208,12 @@ fn statement_rest(book: &[u8], at: usize, start: Start, counts: Counts) -> ReadS
         0,
         0,
     ];
-    let absent = NO_VALUES;
+    let absent = UNMARKED;
     let f = fields_at(book, at, start.map, &limits, &absent, 9);
     let end = f.end;
     match end {
         Passed::Refused(n) => ReadStatement::Refused(n),
-        Passed::Next(next) => ReadStatement::Next(axiom_of(start, f), next),
+        Passed::Next(next) => ReadStatement::Next(statement_of(start, f), next),
     }
 }
 

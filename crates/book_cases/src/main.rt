@@ -1,5 +1,5 @@
 // Runs the check over the books of its standard input, each behind its length in four bytes, and writes what was read: the refusal,
-// or the counts and, of a book of few records, each record as its kind and its fields in the order of their bits.
+// or the counts and, of a book of few records, each record as its kind and its fields in the order of their bits, a statement with its source.
 ghost use Prim.Native.Nat.{_≤_};
 ghost use lib.ListN.{length};
 use book::check::Checked;
@@ -16,6 +16,7 @@ use book::reader::next_statement;
 use book::role::Role;
 use book::role::field_of;
 use book::statement::Axiom;
+use book::statement::Statement;
 use book::statement::SubRolePath;
 use libc::STDIN_FILENO;
 use libc::STDOUT_FILENO;
@@ -206,9 +207,20 @@ fn concepts(book: &[u8], offsets: &[usize], counts: Counts) {
     }
 }
 
-fn statement_line(x: Axiom) {
+// A source, where there is one.
+fn source(n: u32) {
+    if n == 0 {
+        return;
+    }
+    word(b" source");
+    id(n);
+}
+
+fn statement_line(x: Statement) {
+    let said = x.body;
     word(b"s");
-    statement(x);
+    statement(said);
+    source(x.source);
     word(b"\n");
 }
 

@@ -14,7 +14,7 @@ use Rattle.book.specs.declared.statement.Axiom.{Axiom}
 use Rattle.book.specs.declared.statement.Axiom.the-variants.{SubClassOf, EquivalentClasses, DisjointClasses, InverseObjectProperties, SubObjectPropertyOf, TransitiveRole, SymmetricRole, FunctionalRole, InverseFunctionalRole, ObjectPropertyDomain, ObjectPropertyRange, SameIndividual, ClassAssertion, ObjectPropertyAssertion}
 use Rattle.book.specs.Within.{Every, RoleWithin, Within, PathWithin}
 use Rattle.book.specs.Tree.{Concept, Concepts}
-use Rattle.book.specs.Book.{Book}
+use Rattle.book.specs.Book.{Book, axioms}
 use Rattle.book.specs.declared.role.Role.{Role}
 use Rattle.book.specs.declared.role.Role.the-variants.{Named, Inverse}
 use Rattle.rules.specs.Fact.{edge, type, two}
@@ -120,9 +120,9 @@ module _ (B : Book) (inside : Inside B) where
       (w .1, w .0)
 
   -- the rules are obeyed, those of the statements and rule 6
-  obeyed : Every (λ s. Obeys (ruleOf B s) S) (B .statements)
+  obeyed : Every (λ s. Obeys (ruleOf B s) S) (axioms B)
   unfolding rules
-  obeyed = obeys-every S (ruleOf B) (B .statements) (conclusions-obey B inside .0)
+  obeyed = obeys-every S (ruleOf B) (axioms B) (conclusions-obey B inside .0)
 
   shared : (i j : ℕ) → i < n → j < n → label B i ≡ label B j → Obeys (share n (h .classes) (h .roles) i j) S
   unfolding rules
@@ -266,21 +266,21 @@ module _ (B : Book) (inside : Inside B) where
       of-edge ρ (W .ind a) (W .ind b) (edge-to ρ a (W .ind a) b (W .ind b) (w .0) (w .1) (label-lt a (w .1)) (w .2) (label-lt b (w .2)) (label-same a (w .1)) (label-same b (w .2)) o)
 
   -- without a clash the world fits
-  calm-every : clashes B S ≡ false → Every Calm (B .statements)
+  calm-every : clashes B S ≡ false → Every Calm (axioms B)
   unfolding clashes typeClash
   calm-every q =
-      every-map (λ s. (k : (x : ℕ) × (x < n)) → Every (λ p. (S (type (k .0) (p .one)) && S (type (k .0) (p .other))) ≡ false) (disjointBy B s)) Calm (λ s f x l. f (x, l)) (B .statements)
-      (every-swap (λ (k : (x : ℕ) × (x < n)) s. Every (λ p. (S (type (k .0) (p .one)) && S (type (k .0) (p .other))) ≡ false) (disjointBy B s)) (B .statements)
-      (λ k. from-every _ (disjointBy B) (B .statements) (some-none _ (disjoint B) (or-none (typeClash B S (k .0)) (markerClash B S (k .0)) (any-none n (λ x. typeClash B S x || markerClash B S x) q (k .0) (k .1)) .0))))
+      every-map (λ s. (k : (x : ℕ) × (x < n)) → Every (λ p. (S (type (k .0) (p .one)) && S (type (k .0) (p .other))) ≡ false) (disjointBy B s)) Calm (λ s f x l. f (x, l)) (axioms B)
+      (every-swap (λ (k : (x : ℕ) × (x < n)) s. Every (λ p. (S (type (k .0) (p .one)) && S (type (k .0) (p .other))) ≡ false) (disjointBy B s)) (axioms B)
+      (λ k. from-every _ (disjointBy B) (axioms B) (some-none _ (disjoint B) (or-none (typeClash B S (k .0)) (markerClash B S (k .0)) (any-none n (λ x. typeClash B S x || markerClash B S x) q (k .0) (k .1)) .0))))
 
   pub canonical-fits : Plain B → clashes B S ≡ false → Fits W B
   unfolding Fits Plain
   canonical-fits plain q =
-      let a = every-and (PlainStatement B) (Within h) (B .statements) plain (inside .statements) in
-      let b = every-and Calm (λ s. Every (Related (λ a b. label B a ≡ label B b)) (sameBy s)) (B .statements) (calm-every q) (from-every (Related (λ a b. label B a ≡ label B b)) sameBy (B .statements) (label-told B)) in
+      let a = every-and (PlainStatement B) (Within h) (axioms B) plain (inside .statements) in
+      let b = every-and Calm (λ s. Every (Related (λ a b. label B a ≡ label B b)) (sameBy s)) (axioms B) (calm-every q) (from-every (Related (λ a b. label B a ≡ label B b)) sameBy (axioms B) (label-told B)) in
       every-map (λ s. ((PlainStatement B s × Within h s) × (Calm s × Every (Related (λ a b. label B a ≡ label B b)) (sameBy s))) × Obeys (ruleOf B s) S) (True W B)
-      (λ s k. plain-true s (k .0 .0 .0) (k .0 .0 .1) (k .0 .1 .0) (k .0 .1 .1) (k .1)) (B .statements)
-      (every-and _ _ (B .statements) (every-and _ _ (B .statements) a b) obeyed)
+      (λ s k. plain-true s (k .0 .0 .0) (k .0 .0 .1) (k .0 .1 .0) (k .0 .1 .1) (k .1)) (axioms B)
+      (every-and _ _ (axioms B) (every-and _ _ (axioms B) a b) obeyed)
 
   -- and what is not concluded is false in it
   pub type-false : (i c : ℕ) → i < n → c < h .classes → TypeTrue W i c → S (type i c) ≡ true

@@ -12,6 +12,7 @@ pub mod Ascending
 pub mod Ended
 pub mod Labels
 pub mod Members
+pub mod Sources
 pub mod Sound
 pub mod SoundClash
 pub mod Complete

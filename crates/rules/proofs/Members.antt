@@ -1,4 +1,4 @@
--- A run depends on the statements of a book as a set: order and repeats change nothing, and neither does their number in the header.
+-- A run depends on the statements of a book as a set: order, repeats and sources change nothing, and neither does their number in the header.
 use Prim.Native.Nat.{ℕ, _+_}
 use lib.Dec.{ltb, eqb}
 use mathlib.Core.Path.{_≡_, refl, sym, ap, ap₂, _∙_, subst, fun-ext}
@@ -7,10 +7,12 @@ use mathlib.Core.List.{List, [], _∷_}
 use lib.ListN.{length}
 use Rattle.book.specs.declared.statement.Axiom.{Axiom}
 use Rattle.book.specs.declared.statement.Axiom.the-variants.{SubClassOf, EquivalentClasses, DisjointClasses, InverseObjectProperties, SubObjectPropertyOf, TransitiveRole, SymmetricRole, FunctionalRole, InverseFunctionalRole, ObjectPropertyDomain, ObjectPropertyRange, SameIndividual, ClassAssertion, ObjectPropertyAssertion}
+use Rattle.book.specs.declared.statement.Statement.{Statement}
 use Rattle.book.specs.declared.role.Role.{Role}
 use Rattle.book.specs.declared.role.Role.the-variants.{Named, Inverse}
 use Rattle.book.specs.Within.{Every}
-use Rattle.book.specs.Book.{Book}
+use Rattle.book.specs.Statement.{bodies}
+use Rattle.book.specs.Book.{Book, axioms}
 use Rattle.rules.specs.Fact.{Two, Three, edge, type}
 use Rattle.rules.specs.Rule.{Set, Rule, Obeys, any, some, every}
 use Rattle.rules.specs.Brought.{from}
@@ -54,8 +56,17 @@ module _ (xs ys : List Axiom) (to : (P : Axiom → Type 0) → Every P xs → Ev
       gather-none : (l : List Axiom) → Every None l → Every (λ y. f y ≡ false) (from l g)
       gather-none l h = every-from None (λ y. f y ≡ false) g (λ x k. k) l h
 
+-- what holds of the records' statements
+pub every-bodies : (P : Axiom → Type 0) (xs : List Statement) → Every P (bodies xs) → Every (λ x. P (x .body)) xs
+every-bodies P [] h = tt
+every-bodies P (x ∷ xs) h = (h .0, every-bodies P xs (h .1))
+
+pub bodies-every : (P : Axiom → Type 0) (xs : List Statement) → Every (λ x. P (x .body)) xs → Every P (bodies xs)
+bodies-every P [] h = tt
+bodies-every P (x ∷ xs) h = (h .0, bodies-every P xs (h .1))
+
 -- a book with other statements that have the same members
-module _ (B : Book) (m : ℕ) (ys : List Axiom) (to : (P : Axiom → Type 0) → Every P (B .statements) → Every P ys) (back : (P : Axiom → Type 0) → Every P ys → Every P (B .statements)) where
+module _ (B : Book) (m : ℕ) (zs : List Statement) (to : (P : Axiom → Type 0) → Every P (axioms B) → Every P (bodies zs)) (back : (P : Axiom → Type 0) → Every P (bodies zs) → Every P (axioms B)) where
   abbrev pub other : Book
   other =
       record {
@@ -67,7 +78,7 @@ module _ (B : Book) (m : ℕ) (ys : List Axiom) (to : (P : Axiom → Type 0) →
           statements = m;
         };
         concepts = B .concepts;
-        statements = ys;
+        statements = zs;
       }
 
   rule-same : (x : Axiom) → ruleOf other x ≡ ruleOf B x
@@ -122,12 +133,12 @@ module _ (B : Book) (m : ℕ) (ys : List Axiom) (to : (P : Axiom → Type 0) →
   told-other : Every (Related (λ a b. label other a ≡ label other b)) (toldSame B)
   told-other =
       let R : Two → Type 0 = Related (λ a b. label other a ≡ label other b) in
-      every-from (λ x. Every R (sameBy x)) R sameBy (λ x k. k) (B .statements) (back (λ x. Every R (sameBy x)) (from-every R sameBy ys (label-told other)))
+      every-from (λ x. Every R (sameBy x)) R sameBy (λ x k. k) (axioms B) (back (λ x. Every R (sameBy x)) (from-every R sameBy (bodies zs) (label-told other)))
 
   other-told : Every (Related (λ a b. label B a ≡ label B b)) (toldSame other)
   other-told =
       let R : Two → Type 0 = Related (λ a b. label B a ≡ label B b) in
-      every-from (λ x. Every R (sameBy x)) R sameBy (λ x k. k) ys (to (λ x. Every R (sameBy x)) (from-every R sameBy (B .statements) (label-told B)))
+      every-from (λ x. Every R (sameBy x)) R sameBy (λ x k. k) (bodies zs) (to (λ x. Every R (sameBy x)) (from-every R sameBy (axioms B) (label-told B)))
 
   told-same : (i j : ℕ) → same other i j ≡ same B i j
   told-same i j =
@@ -141,14 +152,14 @@ module _ (B : Book) (m : ℕ) (ys : List Axiom) (to : (P : Axiom → Type 0) →
   obeys-to : (X : Set) → Obeys (rules B) X → Obeys (rules other) X
   unfolding rules
   obeys-to X o = (
-    subst (λ (R : Axiom → Rule). Obeys (every ys R) X) (sym (fun-ext rule-same)) (every-obeys X (ruleOf B) ys (to (λ x. Obeys (ruleOf B x) X) (obeys-every X (ruleOf B) (B .statements) (o .0)))),
+    subst (λ (R : Axiom → Rule). Obeys (every (bodies zs) R) X) (sym (fun-ext rule-same)) (every-obeys X (ruleOf B) (bodies zs) (to (λ x. Obeys (ruleOf B x) X) (obeys-every X (ruleOf B) (axioms B) (o .0)))),
     subst (λ (R : Rule). Obeys R X) (sym sharing-same) (o .1),
   )
 
   obeys-back : (X : Set) → Obeys (rules other) X → Obeys (rules B) X
   unfolding rules
   obeys-back X o = (
-    every-obeys X (ruleOf B) (B .statements) (back (λ x. Obeys (ruleOf B x) X) (obeys-every X (ruleOf B) ys (subst (λ (R : Axiom → Rule). Obeys (every ys R) X) (fun-ext rule-same) (o .0)))),
+    every-obeys X (ruleOf B) (axioms B) (back (λ x. Obeys (ruleOf B x) X) (obeys-every X (ruleOf B) (bodies zs) (subst (λ (R : Axiom → Rule). Obeys (every (bodies zs) R) X) (fun-ext rule-same) (o .0)))),
     subst (λ (R : Rule). Obeys R X) sharing-same (o .1),
   )
 
@@ -159,14 +170,14 @@ module _ (B : Book) (m : ℕ) (ys : List Axiom) (to : (P : Axiom → Type 0) →
   -- for any set of facts
   module _ (S : Set) where
     disjoint-some : (f : Two → Bool) → some (disjoint other) f ≡ some (disjoint B) f
-    disjoint-some f = ap (λ (g : Axiom → List Two). some (from ys g) f) (fun-ext disjoint-same) ∙ sym (some-same (B .statements) ys to back (disjointBy B) f)
+    disjoint-some f = ap (λ (g : Axiom → List Two). some (from (bodies zs) g) f) (fun-ext disjoint-same) ∙ sym (some-same (axioms B) (bodies zs) to back (disjointBy B) f)
 
     functional-some : (f : Role → Bool) → some (functional other) f ≡ some (functional B) f
-    functional-some f = sym (some-same (B .statements) ys to back functionalBy f)
+    functional-some f = sym (some-same (axioms B) (bodies zs) to back functionalBy f)
 
     marked-same : (x r c : ℕ) → marked other S x r c ≡ marked B S x r c
     unfolding marked
-    marked-same x r c = ap (λ (g : Axiom → List Mark). some (from ys g) λ m. S (type x (m .left)) && (eqb (m .role) r && eqb (m .class) c)) (fun-ext marks-same) ∙ sym (some-same (B .statements) ys to back (marksBy B) λ m. S (type x (m .left)) && (eqb (m .role) r && eqb (m .class) c))
+    marked-same x r c = ap (λ (g : Axiom → List Mark). some (from (bodies zs) g) λ m. S (type x (m .left)) && (eqb (m .role) r && eqb (m .class) c)) (fun-ext marks-same) ∙ sym (some-same (axioms B) (bodies zs) to back (marksBy B) λ m. S (type x (m .left)) && (eqb (m .role) r && eqb (m .class) c))
 
     both-same : (x : ℕ) (p : Two) (r : Role) → bothMarked other S x p r ≡ bothMarked B S x p r
     both-same x p (Named r) = ap₂ (λ (a : Bool) (b : Bool). a && b) (marked-same x r (p .one)) (marked-same x r (p .other))

@@ -10,7 +10,7 @@ use Rattle.book.specs.declared.statement.Axiom.{Axiom}
 use Rattle.book.specs.declared.statement.Axiom.the-variants.{SubClassOf, EquivalentClasses, DisjointClasses, InverseObjectProperties, SubObjectPropertyOf, TransitiveRole, SymmetricRole, FunctionalRole, InverseFunctionalRole, ObjectPropertyDomain, ObjectPropertyRange, SameIndividual, ClassAssertion, ObjectPropertyAssertion}
 use Rattle.book.specs.Within.{Every, RoleWithin, Within, PathWithin}
 use Rattle.book.specs.Tree.{Concept, Concepts, none, more, Atomic, Nominal, Some, And}
-use Rattle.book.specs.Book.{Book}
+use Rattle.book.specs.Book.{Book, axioms}
 use Rattle.book.specs.Role.{flipped}
 use Rattle.book.specs.declared.role.Role.{Role}
 use Rattle.book.specs.declared.role.Role.the-variants.{Named, Inverse}
@@ -169,7 +169,7 @@ module _ (W : World) where
     module _ (fits : Fits W B) where
       pub same-true : (i j : ℕ) → same B i j ≡ true → W .ind i ≡ W .ind j
       unfolding Fits
-      same-true = same-smallest B (λ i j. W .ind i ≡ W .ind j) (λ i j k e f. e ∙ f) (λ i j e. sym e) (λ i. refl) (every-from (True W B) _ sameBy same-told (B .statements) fits)
+      same-true = same-smallest B (λ i j. W .ind i ≡ W .ind j) (λ i j k e f. e ∙ f) (λ i j e. sym e) (λ i. refl) (every-from (True W B) _ sameBy same-told (axioms B) fits)
 
       share-true : (i j : ℕ) → i < n → j < n → W .ind i ≡ W .ind j → Obeys (share n (h .classes) (h .roles) i j) (truth W)
       share-true i j k l q = (
@@ -184,7 +184,7 @@ module _ (W : World) where
       pub truth-obeys : Obeys (rules B) (truth W)
       unfolding rules Fits
       truth-obeys = (
-        every-obeys (truth W) (ruleOf B) (B .statements) (every-zip _ _ _ ruleOf-true (B .statements) (inside .statements) fits),
+        every-obeys (truth W) (ruleOf B) (axioms B) (every-zip _ _ _ ruleOf-true (axioms B) (inside .statements) fits),
         λ i k j l. given-obeys (truth W) (same B i j) _ (λ e. share-true i j k l (same-true i j e)),
       )
 

@@ -11,7 +11,7 @@ use Rattle.book.specs.declared.statement.Axiom.{Axiom}
 use Rattle.book.specs.declared.statement.Axiom.the-variants.{SubClassOf, EquivalentClasses, DisjointClasses, InverseObjectProperties, SubObjectPropertyOf, TransitiveRole, SymmetricRole, FunctionalRole, InverseFunctionalRole, ObjectPropertyDomain, ObjectPropertyRange, SameIndividual, ClassAssertion, ObjectPropertyAssertion}
 use Rattle.book.specs.Within.{Every, RoleWithin, Within}
 use Rattle.book.specs.Tree.{Concept, Atomic}
-use Rattle.book.specs.Book.{Book}
+use Rattle.book.specs.Book.{Book, axioms}
 use Rattle.book.specs.declared.role.Role.{Role}
 use Rattle.book.specs.declared.role.Role.the-variants.{Named, Inverse}
 use Rattle.rules.specs.Fact.{edge, type, Two}
@@ -113,15 +113,15 @@ module _ (W : World) (B : Book) (inside : Inside B) where
   module _ (fits : Fits W B) where
     all-disjoint : Every Disjoint (disjoint B)
     unfolding Fits
-    all-disjoint = every-from (True W B) Disjoint (disjointBy B) disjointBy-true (B .statements) fits
+    all-disjoint = every-from (True W B) Disjoint (disjointBy B) disjointBy-true (axioms B) fits
 
     all-functional : Every Functional (functional B)
     unfolding Fits
-    all-functional = every-from (λ s. Within h s × True W B s) Functional functionalBy (λ s k. functionalBy-true s (k .0) (k .1)) (B .statements) (every-and (Within h) (True W B) (B .statements) (inside .statements) fits)
+    all-functional = every-from (λ s. Within h s × True W B s) Functional functionalBy (λ s k. functionalBy-true s (k .0) (k .1)) (axioms B) (every-and (Within h) (True W B) (axioms B) (inside .statements) fits)
 
     all-marks : Every Marks (marks B)
     unfolding Fits
-    all-marks = every-from (True W B) Marks (marksBy B) marksBy-true (B .statements) fits
+    all-marks = every-from (True W B) Marks (marksBy B) marksBy-true (axioms B) fits
 
     -- of a set of true facts
     module _ (S : Set) (true-in : In S (truth W)) where

@@ -13,6 +13,8 @@ use Rattle.book.specs.Tree.{Atomic, Top, Nominal, Some, And, none, more, partTr
 use Rattle.book.specs.Book.{Book, concepts, book, accepted, decode}
 use Rattle.book.specs.declared.role.Role.the-variants.{Named, Inverse}
 use Rattle.book.specs.declared.statement.SubRolePath.the-variants.{One}
+use Rattle.book.specs.declared.statement.Axiom.{Axiom}
+use Rattle.book.specs.declared.statement.Statement.{Statement}
 use Rattle.book.specs.declared.statement.Axiom.the-variants.{SubClassOf, EquivalentClasses, DisjointClasses, SubObjectPropertyOf, ObjectPropertyDomain, SameIndividual, ClassAssertion, ObjectPropertyAssertion}
 use Rattle.rules.specs.Ends.{Finished, Outcome, outcome}
 use Rattle.rules.specs.Plain.{anAtomic, simpleAtomic, simpleTop, simpleValue, nestedOne, nestedAnd, nestedNone, nestedMore, Plain}
@@ -20,6 +22,10 @@ use Rattle.rules.specs.Demand.{UnlistedFalse}
 use Rattle.rules.specs.Bars.{nines, plainBar}
 use Rattle.rules.proofs.Bars.{plain-holds}
 use Rattle.rules.proofs.Demand.{demand}
+
+-- a statement of the shared book
+abbrev shared : Axiom → Statement
+shared a = record { body = a; source = 0 }
 
 abbrev pub B : Book
 B = record {
@@ -34,8 +40,15 @@ B = record {
       ∷ And (more (And (more (Atomic 2) none)) none)
       ∷ [];
   statements =
-      SubClassOf 0 8 ∷ EquivalentClasses 1 2 ∷ DisjointClasses 0 3 ∷ SubObjectPropertyOf (One (Inverse 0)) (Named 1) ∷ ObjectPropertyDomain (Inverse 0) 12
-      ∷ SameIndividual 0 1 ∷ ClassAssertion 10 0 ∷ ObjectPropertyAssertion (Named 0) 0 2 ∷ [];
+      shared (SubClassOf 0 8)
+      ∷ shared (EquivalentClasses 1 2)
+      ∷ shared (DisjointClasses 0 3)
+      ∷ shared (SubObjectPropertyOf (One (Inverse 0)) (Named 1))
+      ∷ shared (ObjectPropertyDomain (Inverse 0) 12)
+      ∷ shared (SameIndividual 0 1)
+      ∷ shared (ClassAssertion 10 0)
+      ∷ shared (ObjectPropertyAssertion (Named 0) 0 2)
+      ∷ [];
 }
 
 decodes : decode (plainBar .book) ≡ accepted B

@@ -4,7 +4,7 @@ use mathlib.Core.Bool.{Bool, false, not, _&&_, _||_}
 use mathlib.Core.List.{List, [], _∷_, _++_}
 use lib.Dec.{eqb}
 use Rattle.book.specs.Tree.{Concept}
-use Rattle.book.specs.Book.{Book}
+use Rattle.book.specs.Book.{Book, axioms}
 use Rattle.book.specs.declared.role.Role.{Role}
 use Rattle.book.specs.declared.role.Role.the-variants.{Named, Inverse}
 use Rattle.book.specs.declared.statement.Axiom.{Axiom}
@@ -32,7 +32,7 @@ disjointBy B (ClassAssertion c i) = []
 disjointBy B (ObjectPropertyAssertion r a b) = []
 
 abbrev pub disjoint : Book → List Two
-disjoint B = from (B .statements) (disjointBy B)
+disjoint B = from (axioms B) (disjointBy B)
 
 -- what has the class `left` has the marker (role, class)
 pub record Mark : Type 0 where
@@ -62,7 +62,7 @@ marksBy B (ClassAssertion c i) = []
 marksBy B (ObjectPropertyAssertion r a b) = []
 
 abbrev pub marks : Book → List Mark
-marks B = from (B .statements) (marksBy B)
+marks B = from (axioms B) (marksBy B)
 
 -- the individual x has the marker (r,c)
 unfoldable pub marked : Book → Set → ℕ → ℕ → ℕ → Bool

@@ -1,7 +1,7 @@
 -- "Plain" books (section "Plain books and worlds").
 use Prim.Native.Nat.{ℕ}
 use Rattle.book.specs.Tree.{Concept, Concepts, Top, Atomic, Nominal, And, Some, none, more}
-use Rattle.book.specs.Book.{Book}
+use Rattle.book.specs.Book.{Book, axioms}
 use Rattle.book.specs.Within.{Every}
 use Rattle.book.specs.declared.role.Role.{Role}
 use Rattle.book.specs.declared.statement.Axiom.{Axiom}
@@ -54,4 +54,4 @@ PlainStatement B (ClassAssertion c i) = Right (concept B c)
 PlainStatement B (ObjectPropertyAssertion r a b) = Unit {0}
 
 unfoldable pub Plain : Book → Type 0
-Plain B = Every (PlainStatement B) (B .statements)
+Plain B = Every (PlainStatement B) (axioms B)

@@ -4,7 +4,7 @@ use mathlib.Core.Bool.{Bool, _&&_}
 use mathlib.Core.List.{List, [], _∷_}
 use lib.Dec.{ltb}
 use Rattle.book.specs.Role.{flipped}
-use Rattle.book.specs.Book.{Book}
+use Rattle.book.specs.Book.{Book, axioms}
 use Rattle.book.specs.declared.role.Role.{Role}
 use Rattle.book.specs.declared.statement.Axiom.{Axiom}
 use Rattle.book.specs.declared.statement.Axiom.the-variants.{SubClassOf, EquivalentClasses, DisjointClasses, InverseObjectProperties, SubObjectPropertyOf, TransitiveRole, SymmetricRole, FunctionalRole, InverseFunctionalRole, ObjectPropertyDomain, ObjectPropertyRange, SameIndividual, ClassAssertion, ObjectPropertyAssertion}
@@ -31,7 +31,7 @@ functionalBy (ObjectPropertyAssertion r a b) = []
 
 -- the functional roles of a book
 abbrev pub functional : Book → List Role
-functional B = from (B .statements) functionalBy
+functional B = from (axioms B) functionalBy
 
 -- (i, j) is a same pair of the set S
 unfoldable pub samePair : Book → Set → ℕ → ℕ → Bool

@@ -8,7 +8,7 @@ use mathlib.Core.List.{List, [], _∷_}
 use lib.ListN.{length}
 use Rattle.book.specs.Role.{flipped}
 use Rattle.book.specs.Tree.{Concept, Concepts, Top, Bot, Atomic, Nominal, SelfRestriction, Not, And, Or, Some, All, Min, Max, none, more}
-use Rattle.book.specs.Book.{Book}
+use Rattle.book.specs.Book.{Book, axioms}
 use Rattle.book.specs.Within.{Every}
 use Rattle.book.specs.declared.role.Role.{Role}
 use Rattle.book.specs.declared.role.Role.the-variants.{Named, Inverse}
@@ -115,7 +115,7 @@ module _ (W : World) where
 
   -- "Fits": every statement of the book is true
   unfoldable pub Fits : Book → Type 0
-  Fits B = Every (True B) (B .statements)
+  Fits B = Every (True B) (axioms B)
 
   -- when a type, an edge and a same pair are true
   abbrev pub TypeTrue : ℕ → ℕ → Type 0

@@ -6,7 +6,7 @@ use mathlib.Core.List.{List, [], _∷_, _++_, append-assoc, append-nil}
 use lib.ListN.{length, replicate, set, length-append}
 use borrow.Author.Tests.{eq-eqb, ne-eqb}
 use Rattle.small.specs.declared.laid.Laid.{Laid}
-use Rattle.book.specs.declared.statement.Axiom.{Axiom}
+use Rattle.book.specs.declared.statement.Statement.{Statement}
 use Rattle.book.specs.Bytes.{headerBytes, statementBytes, statementsBytes}
 use Rattle.small.specs.Statements.{smallCounts}
 use Rattle.small.specs.Books.{atomicBytes, bookOf}
@@ -80,11 +80,11 @@ module _ (whole book : Laid) (k map values : ℕ) (more : k < 8) (left : Left wh
 abbrev pub front : ℕ → List ℕ
 front n = headerBytes (smallCounts n) ++ atomicBytes
 
-pub laid-one : (x : Axiom) → length (statementBytes x) ≤ 11 → added (laid (front 1)) (statementBytes x) ≡ laid (bookOf (x ∷ []))
+pub laid-one : (x : Statement) → length (statementBytes x) ≤ 11 → added (laid (front 1)) (statementBytes x) ≡ laid (bookOf (x ∷ []))
 unfolding headerBytes statementsBytes bookOf
 laid-one x l = added-laid (front 1) (statementBytes x) (omega arith) ∙ ap (λ (m : List ℕ). laid (front 1 ++ m)) (sym (append-nil (statementBytes x)))
 
-pub laid-two : (x y : Axiom) → length (statementBytes x) ≤ 11 → length (statementBytes y) ≤ 11 → added (added (laid (front 2)) (statementBytes x)) (statementBytes y) ≡ laid (bookOf (x ∷ y ∷ []))
+pub laid-two : (x y : Statement) → length (statementBytes x) ≤ 11 → length (statementBytes y) ≤ 11 → added (added (laid (front 2)) (statementBytes x)) (statementBytes y) ≡ laid (bookOf (x ∷ y ∷ []))
 unfolding headerBytes statementsBytes bookOf
 laid-two x y l m =
     let n = length-append (statementBytes x) (statementBytes y) in

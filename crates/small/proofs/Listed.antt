@@ -9,31 +9,36 @@ use mathlib.Core.List.{List, [], _∷_, _++_}
 use lib.ListN.{length}
 use borrow.Author.Tests.{lt-ltb, le-ltb, eq-eqb}
 use Rattle.book.specs.declared.header.Counts.{Counts}
-use Rattle.book.specs.declared.statement.Axiom.{Axiom}
+use Rattle.book.specs.declared.statement.Statement.{Statement}
 use Rattle.book.specs.Tree.{Concept, Atomic}
 use Rattle.book.specs.Book.{Book, accepted, decode}
-use Rattle.book.specs.Within.{Every, Within}
+use Rattle.book.specs.Within.{Every, StatementWithin}
 use Rattle.book.specs.Bytes.{Bytes, headerBytes, statementBytes, statementsBytes}
-use Rattle.book.proofs.Accepted.{accepted-statements, accepted-within}
+use Rattle.book.proofs.Accepted.{accepted-statements, accepted-records}
 use Rattle.small.specs.Statements.{smallCounts, statementAt}
 use Rattle.small.specs.Books.{Small, statementCount, less, precedes, atomicBytes, bookOf, smallBooks, there, entryAt}
 use Rattle.small.proofs.Order.{apart, apart-less, apart-front, apart-behind, less-self}
-use Rattle.small.proofs.Statements.{statement-at-within, statement-at-apart, is-statement-at}
+use Rattle.small.proofs.Statements.{statement-at-within, statement-at-shared, statement-at-apart, is-statement-at}
 use Rattle.small.proofs.Read.{smallBook, book-accepted, accepted-laid}
 use Rattle.small.proofs.Places.{Stands, empty, one, two, stands-entry, entry-stands}
 
 -- the statements at a position are few and keep to the counts
-stands-few : (p : ℕ) (xs : List Axiom) → Stands p xs → length xs ≤ 2
+stands-few : (p : ℕ) (xs : List Statement) → Stands p xs → length xs ≤ 2
 stands-few p xs empty = omega arith
 stands-few p xs (one l) = omega arith
 stands-few p xs (two l m) = omega arith
 
-stands-within : (n p : ℕ) (xs : List Axiom) → Stands p xs → Every (Within (smallCounts n)) xs
+stands-within : (n p : ℕ) (xs : List Statement) → Stands p xs → Every (StatementWithin (smallCounts n)) xs
 stands-within n p xs empty = tt
 stands-within n p xs (one {i = i} l) = (statement-at-within n i l, tt)
 stands-within n p xs (two {i = i} {j = j} l m) = (statement-at-within n i l, (statement-at-within n j m, tt))
 
-stands-accepted : (p : ℕ) (xs : List Axiom) → Stands p xs → decode (bookOf xs) ≡ accepted (smallBook xs)
+stands-shared : (p : ℕ) (xs : List Statement) → Stands p xs → Every (λ x. x .source ≡ 0) xs
+stands-shared p xs empty = tt
+stands-shared p xs (one {i = i} l) = (statement-at-shared i l, tt)
+stands-shared p xs (two {i = i} {j = j} l m) = (statement-at-shared i l, (statement-at-shared j m, tt))
+
+stands-accepted : (p : ℕ) (xs : List Statement) → Stands p xs → decode (bookOf xs) ≡ accepted (smallBook xs)
 stands-accepted p xs w = book-accepted xs (stands-few p xs w) (stands-within (length xs) p xs w)
 
 -- EACH ENTRY is a small book
@@ -47,19 +52,20 @@ small-sound p s e =
       counts = refl;
       few = stands-few p xs (w .1);
       concepts = refl;
+      shared = stands-shared p xs (w .1);
     }
 
 -- EVERY SMALL BOOK is an entry
-places : (n : ℕ) (xs : List Axiom) → length xs ≤ 2 → Every (Within (smallCounts n)) xs → (p : ℕ) × Stands p xs
-places n [] l w = (0, empty)
-places n (x ∷ []) l w =
-    let r = is-statement-at n x (w .0) in
-    (r .0 + 1, subst (λ (y : Axiom). Stands (r .0 + 1) (y ∷ [])) (r .2) (one (r .1)))
-places n (x ∷ y ∷ []) l w =
-    let r = is-statement-at n x (w .0) in
-    let t = is-statement-at n y (w .1 .0) in
-    (62 + (r .0 * 61 + t .0), subst₂ (λ (a : Axiom) (b : Axiom). Stands (62 + (r .0 * 61 + t .0)) (a ∷ b ∷ [])) (r .2) (t .2) (two (r .1) (t .1)))
-places n (x ∷ y ∷ z ∷ xs) l w = absurd (omega arith)
+places : (n : ℕ) (xs : List Statement) → length xs ≤ 2 → Every (StatementWithin (smallCounts n)) xs → Every (λ x. x .source ≡ 0) xs → (p : ℕ) × Stands p xs
+places n [] l w z = (0, empty)
+places n (x ∷ []) l w z =
+    let r = is-statement-at n x (w .0) (z .0) in
+    (r .0 + 1, subst (λ (y : Statement). Stands (r .0 + 1) (y ∷ [])) (r .2) (one (r .1)))
+places n (x ∷ y ∷ []) l w z =
+    let r = is-statement-at n x (w .0) (z .0) in
+    let t = is-statement-at n y (w .1 .0) (z .1 .0) in
+    (62 + (r .0 * 61 + t .0), subst₂ (λ (a : Statement) (b : Statement). Stands (62 + (r .0 * 61 + t .0)) (a ∷ b ∷ [])) (r .2) (t .2) (two (r .1) (t .1)))
+places n (x ∷ y ∷ v ∷ xs) l w z = absurd (omega arith)
 
 pub small-complete : (s : List ℕ) → Bytes s → Small s → (p : ℕ) × (entryAt smallBooks p ≡ there s)
 small-complete s bytes small =
@@ -68,8 +74,8 @@ small-complete s bytes small =
     let n = B .counts .statements in
     let k : length xs ≡ n = accepted-statements s B (small .read) in
     let same : B ≡ smallBook xs = same-book B (smallCounts (length xs)) (Atomic 0 ∷ []) (small .counts ∙ ap smallCounts (sym k)) (small .concepts) in
-    let within : Every (Within (smallCounts n)) xs = subst (λ (h : Counts). Every (Within h) xs) (small .counts) (accepted-within s B (small .read)) in
-    let r = places n xs (omega (arith, small .few)) within in
+    let within : Every (StatementWithin (smallCounts n)) xs = subst (λ (h : Counts). Every (StatementWithin h) xs) (small .counts) (accepted-records s B (small .read)) in
+    let r = places n xs (omega (arith, small .few)) within (small .shared) in
     (r .0, stands-entry (r .0) xs (r .1) ∙ ap there (sym (accepted-laid s xs (small .read ∙ ap accepted same) bytes)))
   where
     same-book : (B : Book) (h : Counts) (ts : List Concept) → B .counts ≡ h → B .concepts ≡ ts → B ≡ record { counts = h; concepts = ts; statements = B .statements }
@@ -99,10 +105,10 @@ second-apart i j m a b =
     framed 2 (c ++ x) (c ++ y) (apart-behind c x y (apart-front (statementBytes (statementAt j)) (statementBytes (statementAt m)) [] [] (statement-at-apart j m a b)))
 
 -- fewer statements, or as many and the bytes less
-abbrev Before : List Axiom → List Axiom → Type 0
+abbrev Before : List Statement → List Statement → Type 0
 Before xs ys = (length xs < length ys) ⊎ ((length xs ≡ length ys) × (apart (bookOf xs) (bookOf ys) ≡ true))
 
-in-order : (p q : ℕ) (xs ys : List Axiom) → Stands p xs → Stands q ys → p < q → Before xs ys
+in-order : (p q : ℕ) (xs ys : List Statement) → Stands p xs → Stands q ys → p < q → Before xs ys
 in-order p q xs ys empty empty l = absurd (omega arith)
 in-order p q xs ys empty (one a) l = inl (omega arith)
 in-order p q xs ys empty (two a b) l = inl (omega arith)
@@ -117,7 +123,7 @@ in-order p q xs ys (two {i = i} {j = j} a b) (two {i = k} {j = m} c d) l = inr (
     go (yes e) = subst (λ (x : ℕ). apart (bookOf (statementAt i ∷ statementAt j ∷ [])) (bookOf (statementAt x ∷ statementAt m ∷ [])) ≡ true) e (second-apart i j m (omega arith) d)
     go (no e) = first-apart i j k m (omega arith) c
 
-before-precedes : (xs ys : List Axiom) → decode (bookOf xs) ≡ accepted (smallBook xs) → decode (bookOf ys) ≡ accepted (smallBook ys) → Before xs ys → precedes (bookOf xs) (bookOf ys) ≡ true
+before-precedes : (xs ys : List Statement) → decode (bookOf xs) ≡ accepted (smallBook xs) → decode (bookOf ys) ≡ accepted (smallBook ys) → Before xs ys → precedes (bookOf xs) (bookOf ys) ≡ true
 unfolding precedes
 before-precedes xs ys d e (inl l) = simp (d, e, lt-ltb _ _ l)
 before-precedes xs ys d e (inr t) = let l : length ys ≤ length xs = omega (arith, t .0) in simp (d, e, le-ltb _ _ l, eq-eqb _ _ (t .0), apart-less (bookOf xs) (bookOf ys) (t .1))

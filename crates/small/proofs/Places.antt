@@ -6,11 +6,9 @@ use native.Mathlib.Numerals.{add-one}
 use mathlib.Core.Path.{_≡_, refl, sym, ap, _∙_, subst}
 use mathlib.Core.List.{List, [], _∷_, _++_}
 use lib.ListN.{length, getD, length-append}
-use Rattle.book.specs.declared.statement.Axiom.{Axiom}
-use Rattle.book.specs.declared.statement.Axiom.the-variants.{TransitiveRole}
-use Rattle.book.specs.declared.role.Role.the-variants.{Named}
+use Rattle.book.specs.declared.statement.Statement.{Statement}
 use Rattle.book.specs.Bytes.{headerBytes, statementBytes, statementsBytes}
-use Rattle.small.specs.Statements.{each, smallStatements, statementAt}
+use Rattle.small.specs.Statements.{each, smallStatements, spare, statementAt}
 use Rattle.small.specs.Books.{bookOf, smallBooks, there, none, entryAt}
 use Rattle.small.proofs.Statements.{statements-count, statement-at-short}
 
@@ -33,30 +31,30 @@ entry-none (s ∷ l) zero h = absurd (omega arith)
 entry-none (s ∷ l) (suc p) h = entry-none l p (omega arith)
 
 -- one book for each statement
-module _ (f : Axiom → List ℕ) where
-  row-length : (ys : List Axiom) → length (each ys (λ y. f y ∷ [])) ≡ length ys
+module _ (f : Statement → List ℕ) where
+  row-length : (ys : List Statement) → length (each ys (λ y. f y ∷ [])) ≡ length ys
   row-length [] = refl
   row-length (y ∷ ys) = ap suc (row-length ys)
 
-  row-entry : (d : Axiom) (ys : List Axiom) (i : ℕ) → i < length ys → entryAt (each ys (λ y. f y ∷ [])) i ≡ there (f (getD ys i d))
+  row-entry : (d : Statement) (ys : List Statement) (i : ℕ) → i < length ys → entryAt (each ys (λ y. f y ∷ [])) i ≡ there (f (getD ys i d))
   unfolding entryAt
   row-entry d [] i l = absurd (omega arith)
   row-entry d (y ∷ ys) zero l = refl
   row-entry d (y ∷ ys) (suc i) l = row-entry d ys i (omega arith)
 
 -- one book for each two statements
-module _ (g : Axiom → Axiom → List ℕ) (ys : List Axiom) (size : length ys ≡ 61) where
-  abbrev row : Axiom → List (List ℕ)
+module _ (g : Statement → Statement → List ℕ) (ys : List Statement) (size : length ys ≡ 61) where
+  abbrev row : Statement → List (List ℕ)
   row x = each ys λ y. g x y ∷ []
 
-  row-size : (x : Axiom) → length (row x) ≡ 61
+  row-size : (x : Statement) → length (row x) ≡ 61
   row-size x = row-length (g x) ys ∙ size
 
-  grid-length : (xs : List Axiom) → length (each xs row) ≡ length xs * 61
+  grid-length : (xs : List Statement) → length (each xs row) ≡ length xs * 61
   grid-length [] = refl
   grid-length (x ∷ xs) = length-append (row x) (each xs row) ∙ omega (arith, row-size x, grid-length xs)
 
-  grid-entry : (d : Axiom) (xs : List Axiom) (i j : ℕ) → i < length xs → j < 61 → entryAt (each xs row) (i * 61 + j) ≡ there (g (getD xs i d) (getD ys j d))
+  grid-entry : (d : Statement) (xs : List Statement) (i j : ℕ) → i < length xs → j < 61 → entryAt (each xs row) (i * 61 + j) ≡ there (g (getD xs i d) (getD ys j d))
   grid-entry d [] i j a b = absurd (omega arith)
   grid-entry d (x ∷ xs) zero j a b =
       let q : 0 * 61 + j ≡ j = omega arith in
@@ -80,19 +78,19 @@ unfolding smallBooks
 books-count = ap suc (length-append ones twos ∙ omega (arith, ones-length, statements-count, grid-length (λ x y. bookOf (x ∷ y ∷ [])) smallStatements statements-count smallStatements))
 
 -- the statements of the book at a position
-pub data Stands : ℕ → List Axiom → Type 0 where
+pub data Stands : ℕ → List Statement → Type 0 where
   empty : Stands 0 []
   one : {i : ℕ} → i < 61 → Stands (i + 1) (statementAt i ∷ [])
   two : {i j : ℕ} → i < 61 → j < 61 → Stands (62 + (i * 61 + j)) (statementAt i ∷ statementAt j ∷ [])
 
-pub stands-entry : (p : ℕ) (xs : List Axiom) → Stands p xs → entryAt smallBooks p ≡ there (bookOf xs)
+pub stands-entry : (p : ℕ) (xs : List Statement) → Stands p xs → entryAt smallBooks p ≡ there (bookOf xs)
 unfolding smallBooks entryAt
 stands-entry p xs empty = refl
 stands-entry p xs (one {i = i} l) =
-    rw add-one (entry-front ones twos i (omega (arith, ones-length)) ∙ row-entry (λ x. bookOf (x ∷ [])) (TransitiveRole (Named 0)) smallStatements i (omega (arith, statements-count)))
+    rw add-one (entry-front ones twos i (omega (arith, ones-length)) ∙ row-entry (λ x. bookOf (x ∷ [])) spare smallStatements i (omega (arith, statements-count)))
 stands-entry p xs (two {i = i} {j = j} l m) =
     let q : 62 + (i * 61 + j) ≡ suc (length ones + (i * 61 + j)) = omega (arith, ones-length) in
-    rw q (entry-behind ones twos (i * 61 + j) ∙ grid-entry (λ x y. bookOf (x ∷ y ∷ [])) smallStatements statements-count (TransitiveRole (Named 0)) smallStatements i j (omega (arith, statements-count)) m)
+    rw q (entry-behind ones twos (i * 61 + j) ∙ grid-entry (λ x y. bookOf (x ∷ y ∷ [])) smallStatements statements-count spare smallStatements i j (omega (arith, statements-count)) m)
 
 -- each position of the list, by its number
 module _ (p : ℕ) where
@@ -104,10 +102,10 @@ module _ (p : ℕ) where
       let q : 62 + ((p - 62) / 61 * 61 + (p - 62) % 61) ≡ p = omega arith in
       subst (λ (n : ℕ). Stands n (statementAt ((p - 62) / 61) ∷ statementAt ((p - 62) % 61) ∷ [])) q (two (omega arith) (omega arith))
 
-  pub stands-at : p < 3783 → (xs : List Axiom) × Stands p xs
+  pub stands-at : p < 3783 → (xs : List Statement) × Stands p xs
   stands-at l = go (ℕ-discrete p 0) (decLt 61 p)
     where
-      go : Dec (p ≡ 0) → Dec (61 < p) → (xs : List Axiom) × Stands p xs
+      go : Dec (p ≡ 0) → Dec (61 < p) → (xs : List Statement) × Stands p xs
       go (yes e) b = ([], subst (λ (n : ℕ). Stands n []) (sym e) empty)
       go (no d) (no b) = (_, stands-one d (omega arith))
       go (no d) (yes b) = (_, stands-two b l)
@@ -116,15 +114,15 @@ module _ (p : ℕ) where
   past-none l = entry-none smallBooks p (omega (arith, books-count))
 
 -- what the list has at a position is the book of the statements there
-pub entry-stands : (p : ℕ) (s : List ℕ) → entryAt smallBooks p ≡ there s → (xs : List Axiom) × Stands p xs × (bookOf xs ≡ s)
+pub entry-stands : (p : ℕ) (s : List ℕ) → entryAt smallBooks p ≡ there s → (xs : List Statement) × Stands p xs × (bookOf xs ≡ s)
 entry-stands p s e = go (decLt p 3783)
   where
-    go : Dec (p < 3783) → (xs : List Axiom) × Stands p xs × (bookOf xs ≡ s)
+    go : Dec (p < 3783) → (xs : List Statement) × Stands p xs × (bookOf xs ≡ s)
     go (yes l) = let w = stands-at p l in (w .0, w .1, let q : there (bookOf (w .0)) ≡ there s = sym (stands-entry p (w .0) (w .1)) ∙ e in cc)
     go (no d) = let q : none ≡ there s = sym (past-none p (omega arith)) ∙ e in absurd (let o : _≡_ {A = ℕ} 0 1 = cc in omega arith)
 
 -- it has at most 37 bytes
-pub stands-short : (p : ℕ) (xs : List Axiom) → Stands p xs → length (bookOf xs) ≤ 37
+pub stands-short : (p : ℕ) (xs : List Statement) → Stands p xs → length (bookOf xs) ≤ 37
 unfolding bookOf headerBytes statementsBytes
 stands-short p xs empty = omega arith
 stands-short p xs (one {i = i} l) = omega (arith, length-append (statementBytes (statementAt i)) [], statement-at-short i l)

@@ -7,14 +7,14 @@ use lib.ListN.{length, length-append}
 use Rattle.book.specs.declared.header.Counts.{Counts}
 use Rattle.book.specs.declared.concept.ConceptExpr.{ConceptExpr}
 use Rattle.book.specs.declared.concept.ConceptExpr.the-variants as expr
-use Rattle.book.specs.declared.statement.Axiom.{Axiom}
+use Rattle.book.specs.declared.statement.Statement.{Statement}
 use Rattle.book.specs.Read.{value, several}
 use Rattle.book.specs.Header.{header, Limits}
 use Rattle.book.specs.Concept.{concept}
 use Rattle.book.specs.Statement.{statement}
 use Rattle.book.specs.Tree.{Concept, Atomic, treeOf}
 use Rattle.book.specs.Book.{Book, concepts, accepted, decode}
-use Rattle.book.specs.Within.{Every, Within}
+use Rattle.book.specs.Within.{Every, StatementWithin}
 use Rattle.book.specs.Bytes.{Bytes, Has, headerBytes, statementsBytes}
 use Rattle.book.proofs.Parsing.{came, same-value, forward-several}
 use Rattle.book.proofs.header.Laws.{header-goes}
@@ -25,7 +25,7 @@ use Rattle.small.specs.Statements.{smallCounts}
 use Rattle.small.specs.Books.{atomicBytes, bookOf}
 
 -- what the bytes are read as
-abbrev pub smallBook : List Axiom → Book
+abbrev pub smallBook : List Statement → Book
 smallBook xs = record { counts = smallCounts (length xs); concepts = Atomic 0 ∷ []; statements = xs }
 
 small-limits : (n : ℕ) → n ≤ 2 → Limits (smallCounts n)
@@ -36,7 +36,7 @@ concepts-one : (h : Counts) (s : List ℕ) (at e : ℕ) → concept h 0 s at ≡
 unfolding concepts
 concepts-one h s at e t = simp t
 
-module _ (xs : List Axiom) (few : length xs ≤ 2) (within : Every (Within (smallCounts (length xs))) xs) where
+module _ (xs : List Statement) (few : length xs ≤ 2) (within : Every (StatementWithin (smallCounts (length xs))) xs) where
   abbrev counts : Counts
   counts = smallCounts (length xs)
 
@@ -97,7 +97,7 @@ one-concept h s at e t =
     heads : (a b : Concept) → (a ∷ []) ≡ (b ∷ []) → a ≡ b
     heads a b e = cc
 
-module _ (s : List ℕ) (xs : List Axiom) (read : decode s ≡ accepted (smallBook xs)) where
+module _ (s : List ℕ) (xs : List Statement) (read : decode s ≡ accepted (smallBook xs)) where
   abbrev parts : Layout s (smallBook xs) read
   parts = layout s (smallBook xs) read
 

@@ -1,18 +1,19 @@
--- The statements: there are 61, they keep to the counts, their bytes ascend, and every statement that keeps to the counts is one of them.
+-- The statements: there are 61, they keep to the counts, their bytes ascend, and every statement that keeps to the counts and has no source is one of them.
 use Prim.Native.Nat.{ℕ, zero, suc, _-_, _≤_, _<_}
 use native.Mathlib.Omega.{arith}
 use mathlib.Core.Path.{_≡_, refl, sym, ap, _∙_, subst}
 use mathlib.Core.Bool.{Bool, true, false, _&&_, _||_}
 use mathlib.Core.List.{List, [], _∷_}
 use lib.ListN.{length, getD}
-use lib.Dec.{ltb}
-use borrow.Author.Tests.{ltb-true}
+use lib.Dec.{ltb, eqb}
+use borrow.Author.Tests.{ltb-true, eqb-true}
 use Rattle.book.specs.declared.statement.Axiom.{Axiom}
+use Rattle.book.specs.declared.statement.Statement.{Statement}
 use Rattle.book.specs.declared.role.Role.{Role}
 use Rattle.book.specs.declared.role.Role.the-variants.{Named, Inverse}
 use Rattle.book.specs.declared.statement.SubRolePath.the-variants.{One, Two, Three}
 use Rattle.book.specs.declared.statement.Axiom.the-variants.{SubClassOf, EquivalentClasses, DisjointClasses, InverseObjectProperties, SubObjectPropertyOf, TransitiveRole, SymmetricRole, FunctionalRole, InverseFunctionalRole, ObjectPropertyDomain, ObjectPropertyRange, SameIndividual, ClassAssertion, ObjectPropertyAssertion}
-use Rattle.book.specs.Within.{Within}
+use Rattle.book.specs.Within.{Within, StatementWithin}
 use Rattle.book.specs.Read.{Read, value, refusal}
 use Rattle.book.specs.Role.{roleOf, roleId}
 use Rattle.book.specs.Field.{byte, twoBytes, field, fieldsFrom, fields}
@@ -21,7 +22,7 @@ use Rattle.book.specs.Statement.{statementStart, statementRest, statement, axio
 use Rattle.book.specs.Bytes.{statementBytes, repeats}
 use Rattle.book.proofs.statement.Laws.{statement-within}
 use Rattle.book.proofs.Bytes.{repeats-equal}
-use Rattle.small.specs.Statements.{smallCounts, smallStatements, statementAt}
+use Rattle.small.specs.Statements.{smallCounts, smallStatements, sharedBy, spare, statementAt}
 use Rattle.small.specs.Laying.{fieldBytes, rowOf, rowBytes}
 use Rattle.small.proofs.Order.{apart}
 
@@ -47,37 +48,45 @@ all-at f d (x ∷ xs) zero t l = and-true (f x) (all xs f) t .0
 all-at f d (x ∷ xs) (suc i) t l = all-at f d xs i (and-true (f x) (all xs f) t .1) (omega arith)
 
 -- each is read back over these counts, so it keeps to them
-abbrev readsAs : Axiom → Read Axiom → Bool
+abbrev readsAs : Statement → Read Statement → Bool
 readsAs x (value y e) = repeats x y
 readsAs x (refusal n) = false
 
-abbrev reads : ℕ → Axiom → Bool
+abbrev reads : ℕ → Statement → Bool
 reads n x = readsAs x (statement (smallCounts n) (statementBytes x) 0)
 
 all-read : (n : ℕ) → all smallStatements (reads n) ≡ true
 unfolding smallStatements axiomOf pathOf roleOf statementBytes repeats statement statementStart statementRest statementAllows fields fieldsFrom field byte twoBytes
 all-read n = refl
 
-read-within : (n : ℕ) (x : Axiom) (r : Read Axiom) → statement (smallCounts n) (statementBytes x) 0 ≡ r → readsAs x r ≡ true → Within (smallCounts n) x
-read-within n x (value y e) q t = subst (Within (smallCounts n)) (sym (repeats-equal x y t)) (statement-within (statementBytes x) (smallCounts n) 0 y e q)
+read-within : (n : ℕ) (x : Statement) (r : Read Statement) → statement (smallCounts n) (statementBytes x) 0 ≡ r → readsAs x r ≡ true → StatementWithin (smallCounts n) x
+read-within n x (value y e) q t = subst (StatementWithin (smallCounts n)) (sym (repeats-equal x y t)) (statement-within (statementBytes x) (smallCounts n) 0 y e q)
 read-within n x (refusal m) q t = false-true t
 
-pub statement-at-within : (n i : ℕ) → i < 61 → Within (smallCounts n) (statementAt i)
+pub statement-at-within : (n i : ℕ) → i < 61 → StatementWithin (smallCounts n) (statementAt i)
 statement-at-within n i l =
     let x = statementAt i in
-    read-within n x (statement (smallCounts n) (statementBytes x) 0) refl (all-at (reads n) (TransitiveRole (Named 0)) smallStatements i (all-read n) (omega (arith, statements-count)))
+    read-within n x (statement (smallCounts n) (statementBytes x) 0) refl (all-at (reads n) spare smallStatements i (all-read n) (omega (arith, statements-count)))
+
+-- none has a source
+all-shared : all smallStatements (λ x. eqb (x .source) 0) ≡ true
+unfolding smallStatements
+all-shared = refl
+
+pub statement-at-shared : (i : ℕ) → i < 61 → statementAt i .source ≡ 0
+statement-at-shared i l = eqb-true (statementAt i .source) 0 (all-at (λ x. eqb (x .source) 0) spare smallStatements i all-shared (omega (arith, statements-count)))
 
 -- the bytes of each
-abbrev pub bytesEach : List Axiom → List (List ℕ)
+abbrev pub bytesEach : List Statement → List (List ℕ)
 bytesEach [] = []
 bytesEach (x ∷ xs) = statementBytes x ∷ bytesEach xs
 
-pub bytes-at : (d : Axiom) (xs : List Axiom) (i : ℕ) → i < length xs → getD (bytesEach xs) i [] ≡ statementBytes (getD xs i d)
+pub bytes-at : (d : Statement) (xs : List Statement) (i : ℕ) → i < length xs → getD (bytesEach xs) i [] ≡ statementBytes (getD xs i d)
 bytes-at d [] i l = absurd (omega arith)
 bytes-at d (x ∷ xs) zero l = refl
 bytes-at d (x ∷ xs) (suc i) l = bytes-at d xs i (omega arith)
 
-bytes-length : (xs : List Axiom) → length (bytesEach xs) ≡ length xs
+bytes-length : (xs : List Statement) → length (bytesEach xs) ≡ length xs
 bytes-length [] = refl
 bytes-length (x ∷ xs) = ap suc (bytes-length xs)
 
@@ -107,7 +116,7 @@ module _ (i : ℕ) (l : i < 61) where
   inside = omega (arith, statements-count)
 
   at : getD (bytesEach smallStatements) i [] ≡ statementBytes (statementAt i)
-  at = bytes-at (TransitiveRole (Named 0)) smallStatements i inside
+  at = bytes-at spare smallStatements i inside
 
   pub statement-at-short : length (statementBytes (statementAt i)) ≤ 11
   statement-at-short =
@@ -120,16 +129,16 @@ statement-at-apart i j a b =
     rw (at i (omega arith), at j b) at t
 
 -- the table: the rows, and that each stands for its statement
-abbrev pub rows : List Axiom → List ℕ
+abbrev pub rows : List Statement → List ℕ
 rows [] = []
 rows (x ∷ xs) = rowOf x ∷ rows xs
 
-pub row-at : (d : Axiom) (xs : List Axiom) (i : ℕ) → i < length xs → getD (rows xs) i 0 ≡ rowOf (getD xs i d)
+pub row-at : (d : Statement) (xs : List Statement) (i : ℕ) → i < length xs → getD (rows xs) i 0 ≡ rowOf (getD xs i d)
 row-at d [] i l = absurd (omega arith)
 row-at d (x ∷ xs) zero l = refl
 row-at d (x ∷ xs) (suc i) l = row-at d xs i (omega arith)
 
-abbrev rowsBytes : List Axiom → List (List ℕ)
+abbrev rowsBytes : List Statement → List (List ℕ)
 rowsBytes [] = []
 rowsBytes (x ∷ xs) = rowBytes (rowOf x) ∷ rowsBytes xs
 
@@ -137,20 +146,20 @@ rows-bytes : rowsBytes smallStatements ≡ bytesEach smallStatements
 unfolding smallStatements axiomOf pathOf roleOf statementBytes rowOf rowBytes fieldBytes
 rows-bytes = refl
 
-row-bytes-at : (d : Axiom) (xs : List Axiom) (i : ℕ) → i < length xs → getD (rowsBytes xs) i [] ≡ rowBytes (rowOf (getD xs i d))
+row-bytes-at : (d : Statement) (xs : List Statement) (i : ℕ) → i < length xs → getD (rowsBytes xs) i [] ≡ rowBytes (rowOf (getD xs i d))
 row-bytes-at d [] i l = absurd (omega arith)
 row-bytes-at d (x ∷ xs) zero l = refl
 row-bytes-at d (x ∷ xs) (suc i) l = row-bytes-at d xs i (omega arith)
 
 pub row-bytes : (i : ℕ) → i < 61 → rowBytes (rowOf (statementAt i)) ≡ statementBytes (statementAt i)
-row-bytes i l = sym (row-bytes-at (TransitiveRole (Named 0)) smallStatements i (inside i l)) ∙ ap (λ (b : List (List ℕ)). getD b i []) rows-bytes ∙ at i l
+row-bytes i l = sym (row-bytes-at spare smallStatements i (inside i l)) ∙ ap (λ (b : List (List ℕ)). getD b i []) rows-bytes ∙ at i l
 
 -- every statement that keeps to these counts is one of them: a role is the named one or its inverse, an individual 0 or 1, the concept 0
-abbrev has : List Axiom → Axiom → Bool
+abbrev has : List Statement → Statement → Bool
 has [] x = false
 has (y ∷ ys) x = repeats y x || has ys x
 
-found : (d : Axiom) (ys : List Axiom) (x : Axiom) → has ys x ≡ true → (i : ℕ) × (i < length ys) × (getD ys i d ≡ x)
+found : (d : Statement) (ys : List Statement) (x : Statement) → has ys x ≡ true → (i : ℕ) × (i < length ys) × (getD ys i d ≡ x)
 found d [] x t = false-true t
 found d (y ∷ ys) x t = go (repeats y x) refl t (found d ys x)
   where
@@ -159,7 +168,7 @@ found d (y ∷ ys) x t = go (repeats y x) refl t (found d ys x)
     go false e u ih = let r = ih u in (suc (r .0), omega (arith, r .1), r .2)
 
 abbrev Member : Axiom → Type 0
-Member x = has smallStatements x ≡ true
+Member x = has smallStatements (sharedBy x) ≡ true
 
 one-role : (P : Role → Type 0) → P (Named 0) → P (Inverse 0) → (r : Role) → roleId r < 1 → P r
 one-role P a b (Named r) l = let q : 0 ≡ r = omega arith in subst (λ (x : ℕ). P (Named x)) q a
@@ -206,5 +215,8 @@ member n (ObjectPropertyAssertion r i j) w =
     two : (r : Role) → Member (ObjectPropertyAssertion r 0 0) → Member (ObjectPropertyAssertion r 0 1) → Member (ObjectPropertyAssertion r 1 0) → Member (ObjectPropertyAssertion r 1 1) → Member (ObjectPropertyAssertion r i j)
     two r a b c d = two-individuals (λ i. Member (ObjectPropertyAssertion r i j)) (two-individuals (λ j. Member (ObjectPropertyAssertion r 0 j)) a b j (w .2)) (two-individuals (λ j. Member (ObjectPropertyAssertion r 1 j)) c d j (w .2)) i (w .1)
 
-pub is-statement-at : (n : ℕ) (x : Axiom) → Within (smallCounts n) x → (i : ℕ) × (i < 61) × (statementAt i ≡ x)
-is-statement-at n x w = let r = found (TransitiveRole (Named 0)) smallStatements x (member n x w) in (r .0, omega (arith, r .1, statements-count), r .2)
+pub is-statement-at : (n : ℕ) (x : Statement) → StatementWithin (smallCounts n) x → x .source ≡ 0 → (i : ℕ) × (i < 61) × (statementAt i ≡ x)
+is-statement-at n x w e =
+    let r = found spare smallStatements (sharedBy (x .body)) (member n (x .body) (w .body)) in
+    let q : sharedBy (x .body) ≡ x = ap (λ (k : ℕ). record { body = x .body; source = k }) (sym e) in
+    (r .0, omega (arith, r .1, statements-count), r .2 ∙ q)

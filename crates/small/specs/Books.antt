@@ -5,19 +5,22 @@ use mathlib.Core.Bool.{Bool, true, false, _&&_, _||_}
 use mathlib.Core.List.{List, [], _∷_, _++_}
 use lib.ListN.{length}
 use lib.Dec.{ltb, eqb}
-use Rattle.book.specs.declared.statement.Axiom.{Axiom}
+use Rattle.book.specs.declared.statement.Statement.{Statement}
 use Rattle.book.specs.Tree.{Atomic}
 use Rattle.book.specs.Book.{Book, Decoded, accepted, refused, decode}
 use Rattle.book.specs.Bytes.{headerBytes, statementsBytes}
+use Rattle.book.specs.Within.{Every}
 use Rattle.small.specs.Statements.{smallCounts, smallStatements, each}
 
--- The bytes are a small book: accepted, with one class, one role, two individuals, the one concept Atomic 0 and at most two statements.
+-- The bytes are a small book: accepted, with one class, one role, two individuals, the one concept Atomic 0 and at most two statements, none of
+-- which has a source.
 pub record Small (s : List ℕ) : Type 0 where
   pub book : Book
   pub read : decode s ≡ accepted book
   pub counts : book .counts ≡ smallCounts (book .counts .statements)
   pub few : book .counts .statements ≤ 2
   pub concepts : book .concepts ≡ Atomic 0 ∷ []
+  pub shared : Every (λ x. x .source ≡ 0) (book .statements)
 
 -- how many statements a byte string has as a book
 abbrev pub statementCount : Decoded → ℕ
@@ -42,7 +45,7 @@ abbrev pub atomicBytes : List ℕ
 atomicBytes = 2 ∷ 1 ∷ 0 ∷ 0 ∷ []
 
 -- the book that has these statements
-unfoldable pub bookOf : List Axiom → List ℕ
+unfoldable pub bookOf : List Statement → List ℕ
 bookOf xs = headerBytes (smallCounts (length xs)) ++ (atomicBytes ++ statementsBytes xs)
 
 -- THE LIST: the book of no statement, those of one, those of two

@@ -4,7 +4,7 @@ use mathlib.Core.List.{List, [], _∷_, _++_}
 use lib.ListN.{length, replicate, set}
 use lib.Dec.{eqb}
 use Rattle.book.specs.Read.{pick}
-use Rattle.book.specs.declared.statement.Axiom.{Axiom}
+use Rattle.book.specs.declared.statement.Statement.{Statement}
 use Rattle.book.specs.Bytes.{Place, gap, put, mapOf, formOf}
 use Rattle.small.specs.declared.laid.Laid.{Laid}
 
@@ -22,14 +22,16 @@ unfoldable pub fieldBytes : ℕ → ℕ → ℕ → List ℕ
 fieldBytes zero map values = []
 fieldBytes (suc n) map values = pick (eqb (map % 2) 0) [] (values % 2 ∷ 0 ∷ []) ++ fieldBytes n (map / 2) (values / 2)
 
--- A row of the table: kind, map and values, a byte each; and what it stands for.
+-- A row of the table: kind, map and values, a byte each; and what it stands for. No statement has a source.
 abbrev pub valuesOf : List Place → ℕ
 valuesOf [] = 0
 valuesOf (gap ∷ ps) = 2 * valuesOf ps
 valuesOf (put v ∷ ps) = 2 * valuesOf ps + v
 
-unfoldable pub rowOf : Axiom → ℕ
-rowOf x = 65536 * formOf x .kind + 256 * mapOf (formOf x .places) + valuesOf (formOf x .places)
+unfoldable pub rowOf : Statement → ℕ
+rowOf x =
+    let f = formOf (x .body) in
+    65536 * f .kind + 256 * mapOf (f .places) + valuesOf (f .places)
 
 unfoldable pub rowBytes : ℕ → List ℕ
 rowBytes row = row / 65536 % 256 ∷ row / 256 % 256 ∷ 0 ∷ fieldBytes 8 (row / 256 % 256) (row % 256)

@@ -28,6 +28,10 @@ same = 12 ∷ 0xC0 ∷ 0 ∷ 0 ∷ 0 ∷ 1 ∷ 0 ∷ []
 abbrev turned : List ℕ
 turned = 12 ∷ 0xC0 ∷ 0 ∷ 1 ∷ 0 ∷ 0 ∷ 0 ∷ []
 
+-- 0 same as 1, said by source 1 and by source 2
+abbrev sameOf : ℕ → List ℕ
+sameOf n = 12 ∷ 0xC0 ∷ 1 ∷ 0 ∷ 0 ∷ 1 ∷ 0 ∷ n ∷ 0 ∷ []
+
 -- the first of the repeats stays, in its place
 first-stays : written (counted 3 ++ (told ++ (same ++ told))) ≡ counted 2 ++ (told ++ same)
 unfolding written writtenOf cleaned kept without conceptBytes repeats headerBytes statementBytes statementsBytes conceptOffset decode book header concepts several statement statementStart statementRest axiomOf pathOf statementAllows roleOf fields fieldsFrom field byte twoBytes
@@ -37,6 +41,11 @@ first-stays = refl
 turned-stays : written (counted 2 ++ (same ++ turned)) ≡ counted 2 ++ (same ++ turned)
 unfolding written writtenOf cleaned kept without conceptBytes repeats headerBytes statementBytes statementsBytes conceptOffset decode book header concepts several statement statementStart statementRest axiomOf pathOf statementAllows roleOf fields fieldsFrom field byte twoBytes
 turned-stays = refl
+
+-- the same statement of other sources is no repeat; of one source it is
+both-stay : written (counted 5 ++ (same ++ (sameOf 1 ++ (sameOf 2 ++ (sameOf 1 ++ same))))) ≡ counted 3 ++ (same ++ (sameOf 1 ++ sameOf 2))
+unfolding written writtenOf cleaned kept without conceptBytes repeats headerBytes statementBytes statementsBytes conceptOffset decode book header concepts several statement statementStart statementRest axiomOf pathOf statementAllows roleOf fields fieldsFrom field byte twoBytes
+both-stay = refl
 
 -- 14 bytes of 21: they fit in 14, and what is lent behind them stays; 13 are too few, and stay; a book that is cut off is refused by 4 first
 fits : writes (counted 2 ++ (same ++ same)) (7 ∷ 7 ∷ 7 ∷ 7 ∷ 7 ∷ 7 ∷ 7 ∷ 7 ∷ 7 ∷ 7 ∷ 7 ∷ 7 ∷ 7 ∷ 7 ∷ 7 ∷ []) ≡ record { answer = Written 14; out = counted 1 ++ (same ++ (7 ∷ [])) }

@@ -5,7 +5,7 @@ use mathlib.Core.Path.{_≡_, sym, ap, _∙_}
 use mathlib.Core.List.{List, [], _∷_}
 use lib.ListN.{length, getD}
 use Rattle.book.specs.declared.header.Counts.{Counts}
-use Rattle.book.specs.declared.statement.Axiom.{Axiom}
+use Rattle.book.specs.declared.statement.Statement.{Statement}
 use Rattle.book.specs.Read.{value}
 use Rattle.book.specs.Header.{Limits}
 use Rattle.book.specs.Statement.{statement}
@@ -25,7 +25,7 @@ has-of s (b ∷ l) at r h =
     (omega arith, first, has-of s l (at + 1) (omega arith) later)
 
 -- two records of a book: alike exactly where the statements are equal
-module _ (s : List ℕ) (bytes : Bytes s) (h : Counts) (lim : Limits h) (a b m n : ℕ) (x y : Axiom) (rx : statement h s a ≡ value x (a + m)) (ry : statement h s b ≡ value y (b + n)) where
+module _ (s : List ℕ) (bytes : Bytes s) (h : Counts) (lim : Limits h) (a b m n : ℕ) (x y : Statement) (rx : statement h s a ≡ value x (a + m)) (ry : statement h s b ≡ value y (b + n)) where
   laid-x : Laid s a (a + m) (statementBytes x)
   laid-x = statement-read s h a x (a + m) rx
 
@@ -42,5 +42,5 @@ module _ (s : List ℕ) (bytes : Bytes s) (h : Counts) (lim : Limits h) (a b m n
   equal-alike e =
       let lx : length (statementBytes x) ≡ m = omega (arith, laid-x .ends) in
       let ly : length (statementBytes y) ≡ n = omega (arith, laid-y .ends) in
-      let l : length (statementBytes x) ≡ length (statementBytes y) = ap (λ (z : Axiom). length (statementBytes z)) e in
-      (omega arith, λ i k. has-at s (statementBytes x) a (laid-x .has bytes) i (omega arith) ∙ (ap (λ (z : Axiom). getD (statementBytes z) i 0) e ∙ sym (has-at s (statementBytes y) b (laid-y .has bytes) i (omega arith))))
+      let l : length (statementBytes x) ≡ length (statementBytes y) = ap (λ (z : Statement). length (statementBytes z)) e in
+      (omega arith, λ i k. has-at s (statementBytes x) a (laid-x .has bytes) i (omega arith) ∙ (ap (λ (z : Statement). getD (statementBytes z) i 0) e ∙ sym (has-at s (statementBytes y) b (laid-y .has bytes) i (omega arith))))

@@ -9,7 +9,7 @@ use lib.Seq.{slice, slice-empty, slice-cons, length-slice, take-suc, take-length
 use lib.Dec.{eqb}
 use borrow.Author.Tests.{eq-eqb, ne-eqb, eqb-true, eqb-false, lt-ltb, le-ltb}
 use Rattle.book.specs.declared.header.Counts.{Counts}
-use Rattle.book.specs.declared.statement.Axiom.{Axiom}
+use Rattle.book.specs.declared.statement.Statement.{Statement}
 use Rattle.book.specs.Read.{pick}
 use Rattle.book.specs.Header.{Limits}
 use Rattle.book.specs.Reader.{rest}
@@ -39,7 +39,7 @@ has-slice s (b ∷ l) at h r =
     rw q (slice-cons at (at + 1 + length l) s 0 (omega arith) (omega arith) ∙ ap₂ (λ (x : ℕ) (y : List ℕ). x ∷ y) (h .1) (ap (λ (i : ℕ). slice i (at + 1 + length l) s) o ∙ has-slice s l (at + 1) (h .2) (omega arith)))
 
 -- the kept records are the statements' bytes
-module _ (s : List ℕ) (bytes : Bytes s) (h : Counts) (xs : List Axiom) (n : ℕ) (place size : List ℕ) (r : Records s h xs n place size) (inside : (k : ℕ) → k < n → getD place k 0 + getD size k 0 ≤ length s) where
+module _ (s : List ℕ) (bytes : Bytes s) (h : Counts) (xs : List Statement) (n : ℕ) (place size : List ℕ) (r : Records s h xs n place size) (inside : (k : ℕ) → k < n → getD place k 0 + getD size k 0 ≤ length s) where
   record-bytes : (k : ℕ) → k < n → slice (getD place k 0) (getD place k 0 + getD size k 0) s ≡ statementBytes (getD xs k spare)
   record-bytes k l =
       let at = getD place k 0 in
@@ -65,7 +65,7 @@ module _ (s : List ℕ) (bytes : Bytes s) (h : Counts) (front start : ℕ) (loc 
   abbrev B : Book
   B = loc .book
 
-  abbrev ks : List Axiom
+  abbrev ks : List Statement
   ks = kept (B .statements)
 
   pub located-rest : rest s h start ≡ B .statements
@@ -85,7 +85,7 @@ module _ (s : List ℕ) (bytes : Bytes s) (h : Counts) (front start : ℕ) (loc 
 
   module _ (n : ℕ) (place size : List ℕ) (r : Records s h (kept (rest s h start)) n place size) (st : Stand s n place size) where
     ours : Records s (B .counts) ks n place size
-    ours = subst (λ (c : Counts). Records s c ks n place size) (sym (loc .counts)) (subst (λ (l : List Axiom). Records s h (kept l) n place size) located-rest r)
+    ours = subst (λ (c : Counts). Records s c ks n place size) (sym (loc .counts)) (subst (λ (l : List Statement). Records s h (kept l) n place size) located-rest r)
 
     counted : length ks ≡ n
     counted = ours .counted

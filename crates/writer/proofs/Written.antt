@@ -7,17 +7,18 @@ use lib.ListN.{length, getD, take, drop, length-append, List·getD-append}
 use lib.Seq.{slice, slice-empty, slice-cons, length-slice, getD-append-add, getD-drop, getD-take, drop-at, take-at, take-append-add}
 use Rattle.book.specs.declared.header.Counts.{Counts}
 use Rattle.book.specs.declared.statement.Axiom.{Axiom}
+use Rattle.book.specs.declared.statement.Statement.{Statement}
 use Rattle.book.specs.Read.{value, several}
 use Rattle.book.specs.Header.{header, Limits}
-use Rattle.book.specs.Statement.{statement}
-use Rattle.book.specs.Within.{Every, Within}
+use Rattle.book.specs.Statement.{statement, bodies}
+use Rattle.book.specs.Within.{Every, StatementWithin}
 use Rattle.book.specs.Bytes.{Bytes, Has, count, headerBytes, statementsBytes}
-use Rattle.book.specs.Book.{Book, concepts, book, accepted, decode, conceptOffset}
+use Rattle.book.specs.Book.{Book, axioms, concepts, book, accepted, decode, conceptOffset}
 use Rattle.book.proofs.Parsing.{forward-several}
 use Rattle.book.proofs.header.Laws.{header-goes}
 use Rattle.book.proofs.Bytes.{Laid, header-read, header-laid, statements-read, statements-laid, has-put, has-append, has-whole}
 use Rattle.book.proofs.Local.{Agrees, forward-concepts, local-concepts, concepts-same}
-use Rattle.book.proofs.Accepted.{decode-of, within-same, forward-statement, Layout, layout, offset-is, accepted-limits, accepted-statements, accepted-within}
+use Rattle.book.proofs.Accepted.{decode-of, record-same, forward-statement, Layout, layout, offset-is, accepted-limits, accepted-statements, accepted-records}
 use Rattle.rules.specs.Ends.{outcome, outcomeFrom}
 use Rattle.rules.specs.Rule.{Set}
 use Rattle.rules.specs.Meaning.{conclusions}
@@ -29,7 +30,7 @@ use Rattle.writer.specs.Kept.{kept, Different, lowered, cleaned}
 use Rattle.writer.specs.Written.{conceptBytes, writtenOf, written}
 use Rattle.writer.proofs.Counted.{header-length}
 use Rattle.writer.proofs.Repeats.{every-kept, kept-every, different-kept, kept-different, kept-length, kept-none}
-use Rattle.rules.proofs.Members.{conclusions-same, outcome-same}
+use Rattle.rules.proofs.Members.{every-bodies, bodies-every, conclusions-same, outcome-same}
 
 slice-has : (s : List ℕ) (d at e : ℕ) → at + d ≡ e → e ≤ length s → Has s at (slice at e s)
 slice-has s zero at e q l = let z : e ≡ at = omega arith in rw (z, slice-empty at s) tt
@@ -42,7 +43,7 @@ module _ (s : List ℕ) (B : Book) (whole : decode s ≡ accepted B) where
   abbrev lay : Layout s B whole
   lay = layout s B whole
 
-  abbrev ks : List Axiom
+  abbrev ks : List Statement
   ks = kept (B .statements)
 
   abbrev low : Counts
@@ -102,8 +103,8 @@ module _ (s : List ℕ) (B : Book) (whole : decode s ≡ accepted B) where
         statements-top = omega (arith, kept-length (B .statements), counted, l .statements-top);
       }
 
-  low-within : Every (Within low) ks
-  low-within = every-map (Within (B .counts)) (Within low) (λ x i. within-same (B .counts) (length ks) x i) ks (every-kept (Within (B .counts)) (B .statements) (accepted-within s B whole))
+  low-within : Every (StatementWithin low) ks
+  low-within = every-map (StatementWithin (B .counts)) (StatementWithin low) (λ x i. record-same (B .counts) (length ks) x i) ks (every-kept (StatementWithin (B .counts)) (B .statements) (accepted-records s B whole))
 
   w-header : header w 0 ≡ value low (lay .at)
   w-header = header-laid w low low-limits 0 (has-put [] front (middle ++ back) 0 refl) ∙ ap (value low) (omega (arith, front-length))
@@ -161,11 +162,11 @@ module _ (s : List ℕ) (B : Book) (whole : decode s ≡ accepted B) where
       let start = lay .start in
       let read = statements-read s (B .counts) start (B .counts .statements) (B .statements) (lay .end) (lay .list) in
       let goes = forward-several (statement (B .counts)) (forward-statement (B .counts)) (B .counts .statements) s start (B .statements) (lay .end) (trees-go .1) (lay .list) in
-      let long : length back ≡ length (statementsBytes (B .statements)) = ap (λ (l : List Axiom). length (statementsBytes l)) kd in
+      let long : length back ≡ length (statementsBytes (B .statements)) = ap (λ (l : List Statement). length (statementsBytes l)) kd in
       let size : length w ≡ length s = omega (arith, w-length, long, read .ends, goes .1, lay .ends) in
       let has-front : Has s 0 front = subst (λ (m : ℕ). Has s 0 (headerBytes (lowered (B .counts) m))) (sym n) (header-read s 0 (B .counts) at (lay .head) .has bytes) in
       let has-middle : Has s at middle = slice-has s (start - at) at start (omega (arith, trees-go .0)) (trees-go .1) in
-      let has-back : Has s start back = subst (λ (l : List Axiom). Has s start (statementsBytes l)) (sym kd) (read .has bytes) in
+      let has-back : Has s start back = subst (λ (l : List Statement). Has s start (statementsBytes l)) (sym kd) (read .has bytes) in
       let p : 0 + length front ≡ at = omega (arith, front-length) in
       let q : at + length middle ≡ start = omega (arith, middle-length, trees-go .0) in
       let rest : Has s at (middle ++ back) = has-append s middle back at has-middle (subst (λ (m : ℕ). Has s m back) (sym q) has-back) in
@@ -200,8 +201,8 @@ module _ (s : List ℕ) (B : Book) (whole : decode s ≡ accepted B) where
   run-same : (budget : ℕ) (ts es ps : List ℕ) → outcomeFrom (cleaned B) (conclusions (cleaned B)) budget ts es ps ≡ outcomeFrom B (conclusions B) budget ts es ps
   unfolding cleaned
   run-same budget ts es ps =
-      let to : (P : Axiom → Type 0) → Every P (B .statements) → Every P ks = (λ P. every-kept P (B .statements)) in
-      let from : (P : Axiom → Type 0) → Every P ks → Every P (B .statements) = (λ P. kept-every P (B .statements)) in
+      let to : (P : Axiom → Type 0) → Every P (axioms B) → Every P (bodies ks) = (λ P h. bodies-every P ks (every-kept (λ x. P (x .body)) (B .statements) (every-bodies P (B .statements) h))) in
+      let from : (P : Axiom → Type 0) → Every P (bodies ks) → Every P (axioms B) = (λ P h. bodies-every P (B .statements) (kept-every (λ x. P (x .body)) (B .statements) (every-bodies P ks h))) in
       let C : Book = record { counts = low; concepts = B .concepts; statements = ks } in
       ap (λ (S : Set). outcomeFrom C S budget ts es ps) (conclusions-same B (length ks) ks to from (accepted-inside s B whole) (accepted-inside w C w-decodes))
       ∙ outcome-same B (length ks) ks to from (conclusions B) budget ts es ps

@@ -1,11 +1,11 @@
--- Which statements stay: each but those that repeat an earlier one in kind and fields.
+-- Which statements stay: each but those that repeat an earlier one in kind and fields, the source among them.
 use Prim.Native.Nat.{ℕ}
 use mathlib.Core.Path.{_≡_}
 use mathlib.Core.Bool.{Bool, false, not}
 use mathlib.Core.List.{List, [], _∷_, _++_}
 use lib.ListN.{length}
 use Rattle.book.specs.declared.header.Counts.{Counts}
-use Rattle.book.specs.declared.statement.Axiom.{Axiom}
+use Rattle.book.specs.declared.statement.Statement.{Statement}
 use Rattle.book.specs.Bytes.{repeats}
 use Rattle.book.specs.Within.{Every}
 use Rattle.book.specs.Book.{Book}
@@ -13,21 +13,21 @@ use Rattle.rules.specs.Lists.{only}
 use Rattle.rules.specs.Rule.{some}
 
 -- those that do not repeat x
-unfoldable pub without : Axiom → List Axiom → List Axiom
+unfoldable pub without : Statement → List Statement → List Statement
 without x [] = []
 without x (y ∷ ys) = only (not (repeats x y)) y ++ without x ys
 
 -- whether y repeats one of them
-abbrev pub repeated : List Axiom → Axiom → Bool
+abbrev pub repeated : List Statement → Statement → Bool
 repeated xs y = some xs λ x. repeats x y
 
 -- the first of each
-unfoldable pub kept : List Axiom → List Axiom
+unfoldable pub kept : List Statement → List Statement
 kept [] = []
 kept (x ∷ xs) = x ∷ without x (kept xs)
 
 -- no statement repeats an earlier one
-abbrev pub Different : List Axiom → Type 0
+abbrev pub Different : List Statement → Type 0
 Different [] = Unit {0}
 Different (x ∷ xs) = Every (λ y. repeats x y ≡ false) xs × Different xs
 

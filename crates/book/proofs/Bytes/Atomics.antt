@@ -3,7 +3,7 @@ use Prim.Native.Nat.{ℕ, zero, suc, _+_, _/_, _%_, _≤_, _<_}
 use native.Mathlib.Omega.{arith}
 use mathlib.Core.Path.{_≡_, refl, sym, ap, _∙_, subst}
 use mathlib.Core.List.{List, [], _∷_}
-use lib.ListN.{getD, set, getD-replicate}
+use lib.ListN.{length, getD, set}
 use lib.Dec.{ltb, eqb, lit≤}
 use borrow.Author.Tests.{eqb-true}
 use Rattle.book.specs.declared.header.Counts.{Counts}
@@ -17,7 +17,9 @@ use Rattle.book.specs.Field.{byte, fieldsFrom, fields}
 use Rattle.book.specs.Bytes.{Has, twoOf, put, bytesOf, placesOf}
 use Rattle.book.proofs.Parsing.{came, held, same-value}
 use Rattle.book.proofs.Bytes.Entries.{byte-laid, fields-laid, Laid, laid-then, byte-read, fields-read}
-use Rattle.book.proofs.Bytes.Stated.{values-room}
+
+values-room : 0 + 16 ≤ length noValues
+values-room = omega arith
 
 -- the record of an Atomic, laid out and read
 concept-of : (h : Counts) (k : ℕ) (s : List ℕ) (at a b : ℕ) (v : List ℕ) (e : ℕ) → byte s at ≡ value 2 a → byte s a ≡ value 1 b → fields 1 (conceptLimits h k) noValues 9 s b ≡ value v e → concept h k s at ≡ value (Atomic (getD v 0 0)) e
@@ -27,7 +29,7 @@ concept-of h k s at a b v e p q f = simp (p, q, f)
 pub atomic-laid : (h : Counts) (k : ℕ) (s : List ℕ) (at c : ℕ) → c < h .classes → c < 65536 → Has s at (2 ∷ 1 ∷ twoOf c) → concept h k s at ≡ value (Atomic c) (at + 1 + 1 + 2)
 unfolding fields
 atomic-laid h k s at c l m has =
-    let f = fields-laid (conceptLimits h k) 9 s 65536 (put c ∷ []) 16 0 noValues (at + 1 + 1) (lit≤ tt) (lit≤ tt) (λ j a b. getD-replicate 16 j 65536 0 b) ((l, omega arith), tt) (has .2 .2) in
+    let f = fields-laid (conceptLimits h k) 9 s noValues (put c ∷ []) 16 0 noValues (at + 1 + 1) (lit≤ tt) (lit≤ tt) (λ j a b. refl) ((l, omega arith), tt) (has .2 .2) in
     concept-of h k s at (at + 1) (at + 1 + 1) (set noValues 0 c) (at + 1 + 1 + 2) (byte-laid s at 2 (has .0) (has .1)) (byte-laid s (at + 1) 1 (has .2 .0) (has .2 .1)) f
 
 -- no other kind is an Atomic

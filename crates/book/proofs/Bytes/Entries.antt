@@ -49,10 +49,10 @@ module _ (s : List ℕ) (at v : ℕ) where
 abbrev pub Low : ℕ → ℕ → ℕ → Type 0
 Low v limit absent = (v < limit) × (v ≡ absent → ⊥)
 
-abbrev pub Fit : List ℕ → ℕ → ℕ → List Place → Type 0
+abbrev pub Fit : List ℕ → List ℕ → ℕ → List Place → Type 0
 Fit limits absent k [] = Unit {0}
 Fit limits absent k (gap ∷ ps) = Fit limits absent (k + 1) ps
-Fit limits absent k (put v ∷ ps) = Low v (getD limits k 0) absent × Fit limits absent (k + 1) ps
+Fit limits absent k (put v ∷ ps) = Low v (getD limits k 0) (getD absent k 0) × Fit limits absent (k + 1) ps
 
 module _ (limits : List ℕ) (over : ℕ) (s : List ℕ) where
   none-laid : (n k : ℕ) (values : List ℕ) (at : ℕ) → fieldsFrom limits over n k 0 values s at ≡ value values at
@@ -64,10 +64,10 @@ module _ (limits : List ℕ) (over : ℕ) (s : List ℕ) where
   unfolding field
   gap-laid n k map values at w e t = rw (set-getD values k 0) t
 
-  abbrev Clear : ℕ → ℕ → List ℕ → Type 0
-  Clear absent k values = (j : ℕ) → k ≤ j → j < 16 → getD values j 0 ≡ absent
+  abbrev Clear : List ℕ → ℕ → List ℕ → Type 0
+  Clear absent k values = (j : ℕ) → k ≤ j → j < 16 → getD values j 0 ≡ getD absent j 0
 
-  pub fields-laid : (absent : ℕ) (ps : List Place) (n k : ℕ) (values : List ℕ) (at : ℕ) → length ps ≤ n → k + n ≤ 16 → Clear absent k values → Fit limits absent k ps → Has s at (bytesOf ps) → fieldsFrom limits over n k (mapOf ps) values s at ≡ value (fill k ps values) (at + length (bytesOf ps))
+  pub fields-laid : (absent : List ℕ) (ps : List Place) (n k : ℕ) (values : List ℕ) (at : ℕ) → length ps ≤ n → k + n ≤ 16 → Clear absent k values → Fit limits absent k ps → Has s at (bytesOf ps) → fieldsFrom limits over n k (mapOf ps) values s at ≡ value (fill k ps values) (at + length (bytesOf ps))
   unfolding fieldsFrom
   fields-laid absent [] n k values at a b c f h = let q : at + 0 ≡ at = omega arith in rw q (none-laid n k values at)
   fields-laid absent (gap ∷ ps) zero k values at a b c f h = absurd (omega arith)
@@ -81,8 +81,8 @@ module _ (limits : List ℕ) (over : ℕ) (s : List ℕ) where
       let m = mapOf ps in
       let q : (2 * m + 1) % 2 ≡ 1 = omega arith in
       let r : (2 * m + 1) / 2 ≡ m = omega arith in
-      let e : getD values k 0 ≡ absent = c k (omega arith) (omega arith) in
-      let t = field-laid s at v (getD limits k 0) absent over (f .0 .0) (f .0 .1) (two-laid s at v (h .0) (h .1) (h .2 .0) (h .2 .1)) in
+      let e : getD values k 0 ≡ getD absent k 0 = c k (omega arith) (omega arith) in
+      let t = field-laid s at v (getD limits k 0) (getD absent k 0) over (f .0 .0) (f .0 .1) (two-laid s at v (h .0) (h .1) (h .2 .0) (h .2 .1)) in
       let z : at + 1 + 1 ≡ at + 2 = omega arith in
       let o : at + suc (suc (length (bytesOf ps))) ≡ at + 2 + length (bytesOf ps) = omega arith in
       let clear : Clear absent (k + 1) (set values k v) = (λ j x y. let d : (j ≡ k → ⊥) = omega arith in getD-set-other values k j v 0 d ∙ c j (omega arith) y) in

@@ -4,12 +4,13 @@ use native.Mathlib.Omega.{arith}
 use mathlib.Core.Path.{_≡_, refl, sym, ap, ap₂, _∙_, subst, subst₂}
 use mathlib.Core.Bool.{Bool, true, false, not, _&&_, _||_}
 use mathlib.Core.List.{List, [], _∷_, _++_, append-assoc, append-nil}
-use lib.ListN.{length, getD, length-append, getD-replicate}
+use lib.ListN.{length, getD, set, replicate, length-append}
 use lib.Dec.{ltb, eqb, lit<, lit≤}
-use borrow.Author.Tests.{eqb-true, eqb-false, eq-eqb}
+use borrow.Author.Tests.{lt-ltb, eqb-true, eqb-false, eq-eqb}
 use Rattle.book.specs.declared.header.Counts.{Counts}
 use Rattle.book.specs.declared.table.Start.{Start}
 use Rattle.book.specs.declared.statement.Axiom.{Axiom}
+use Rattle.book.specs.declared.statement.Statement.{Statement}
 use Rattle.book.specs.declared.role.Role.{Role}
 use Rattle.book.specs.declared.role.Role.the-variants.{Named, Inverse}
 use Rattle.book.specs.Read.{pick, value, Parser, several}
@@ -18,16 +19,16 @@ use Rattle.book.specs.Header.{Limits}
 use Rattle.book.specs.declared.statement.SubRolePath.the-variants.{One, Two, Three}
 use Rattle.book.specs.declared.statement.Axiom.the-variants.{SubClassOf, EquivalentClasses, DisjointClasses, InverseObjectProperties, SubObjectPropertyOf, TransitiveRole, SymmetricRole, FunctionalRole, InverseFunctionalRole, ObjectPropertyDomain, ObjectPropertyRange, SameIndividual, ClassAssertion, ObjectPropertyAssertion}
 use Rattle.book.specs.Table.{statementAllows}
-use Rattle.book.specs.Concept.{noValues}
-use Rattle.book.specs.Statement.{statementStart, statementLimits, pathOf, axiomOf, statementRest, statement}
-use Rattle.book.specs.Within.{Every, RoleWithin, Within}
-use Rattle.book.specs.Field.{byte, twoBytes, fieldsFrom, fields}
-use Rattle.book.specs.Bytes.{Has, twoOf, Place, gap, put, mapOf, bytesOf, formOf, statementBytes, statementsBytes, samePlace, samePlaces, repeats, fill, placesOf}
+use Rattle.book.specs.Statement.{statementStart, statementLimits, unmarked, pathOf, axiomOf, statementOf, statementRest, statement}
+use Rattle.book.specs.Within.{Every, RoleWithin, Within, StatementWithin}
+use Rattle.book.specs.Field.{byte, twoBytes, fields}
+use Rattle.book.specs.Bytes.{Has, twoOf, Place, gap, put, mapOf, bytesOf, mark, marks, padded, formOf, wholeOf, statementBytes, statementsBytes, samePlace, samePlaces, repeats, fill, placesOf}
 use Rattle.book.proofs.Parsing.{came, held, same-value, several-none, several-more}
 use Rattle.book.proofs.role.Laws.{role-of-field}
-use Rattle.book.proofs.statement.Laws.{start-known}
+use Rattle.book.proofs.statement.Laws.{start-known, low-bits, axiom-low, through}
 use Rattle.book.proofs.field.Laws.{two-read}
 use Rattle.book.proofs.Bytes.Entries.{has-front, has-back, two-laid, byte-laid, Low, Fit, fields-laid, Laid, laid-then, two-bytes, byte-read, fields-read}
+use Rattle.book.proofs.Bytes.Marks.{Small, small-zero, places-map, gaps, gaps-map, gaps-bytes, bits-places, marksFrom, marks-placed, mark-fit, fit-append, mark-map, map-append, fill-append, mark-fill}
 
 and-true : (a b : Bool) → (a && b) ≡ true → (a ≡ true) × (b ≡ true)
 and-true true b e = (refl, e)
@@ -41,55 +42,101 @@ field-of-role f = go (eqb (f % 2) 0) refl
     go true e = let q = eqb-true (f % 2) 0 e in omega arith
     go false e = let q : f % 2 ≡ 0 → ⊥ = eqb-false (f % 2) 0 e in omega arith
 
--- statements
-startOf : Axiom → Start
-startOf x = record { kind = formOf x .kind; map = mapOf (formOf x .places) }
+-- what a statement says: the places of bits 0 to 7
+abbrev own : Axiom → List Place
+own x = padded 8 (formOf x .places)
 
-pub record Known (x : Axiom) : Type 0 where
-  pub some : not (eqb (formOf x .kind) 0) ≡ true
-  pub few : ltb (formOf x .kind) 15 ≡ true
-  pub allowed : statementAllows (formOf x .kind) (mapOf (formOf x .places)) ≡ true
-  pub short : length (formOf x .places) ≤ 16
-  pub number : mapOf (formOf x .places) < 256
+startOf : Axiom → Start
+startOf x = record { kind = formOf x .kind; map = mapOf (own x) }
+
+record Known (x : Axiom) : Type 0 where
+  some : not (eqb (formOf x .kind) 0) ≡ true
+  few : ltb (formOf x .kind) 15 ≡ true
+  allowed : statementAllows (formOf x .kind) (mapOf (own x)) ≡ true
+  eight : length (own x) ≡ 8
+  number : mapOf (own x) < 256
+  clear : getD (fill 0 (own x) unmarked) 8 0 ≡ 0
+  source : (n : ℕ) → getD (set (fill 0 (own x) unmarked) 8 n) 8 0 ≡ n
 
 known : (x : Axiom) → Known x
 unfolding statementAllows
-known (SubClassOf c d) = record { some = refl; few = refl; allowed = refl; short = lit≤ tt; number = lit< tt }
-known (EquivalentClasses c d) = record { some = refl; few = refl; allowed = refl; short = lit≤ tt; number = lit< tt }
-known (DisjointClasses c d) = record { some = refl; few = refl; allowed = refl; short = lit≤ tt; number = lit< tt }
-known (InverseObjectProperties r s) = record { some = refl; few = refl; allowed = refl; short = lit≤ tt; number = lit< tt }
-known (SubObjectPropertyOf (One r) t) = record { some = refl; few = refl; allowed = refl; short = lit≤ tt; number = lit< tt }
-known (SubObjectPropertyOf (Two r s) t) = record { some = refl; few = refl; allowed = refl; short = lit≤ tt; number = lit< tt }
-known (SubObjectPropertyOf (Three r s u) t) = record { some = refl; few = refl; allowed = refl; short = lit≤ tt; number = lit< tt }
-known (TransitiveRole r) = record { some = refl; few = refl; allowed = refl; short = lit≤ tt; number = lit< tt }
-known (SymmetricRole r) = record { some = refl; few = refl; allowed = refl; short = lit≤ tt; number = lit< tt }
-known (FunctionalRole r) = record { some = refl; few = refl; allowed = refl; short = lit≤ tt; number = lit< tt }
-known (InverseFunctionalRole r) = record { some = refl; few = refl; allowed = refl; short = lit≤ tt; number = lit< tt }
-known (ObjectPropertyDomain r c) = record { some = refl; few = refl; allowed = refl; short = lit≤ tt; number = lit< tt }
-known (ObjectPropertyRange r c) = record { some = refl; few = refl; allowed = refl; short = lit≤ tt; number = lit< tt }
-known (SameIndividual i j) = record { some = refl; few = refl; allowed = refl; short = lit≤ tt; number = lit< tt }
-known (ClassAssertion c i) = record { some = refl; few = refl; allowed = refl; short = lit≤ tt; number = lit< tt }
-known (ObjectPropertyAssertion r i j) = record { some = refl; few = refl; allowed = refl; short = lit≤ tt; number = lit< tt }
+known (SubClassOf c d) = record { some = refl; few = refl; allowed = refl; eight = refl; number = lit< tt; clear = refl; source = λ n. refl }
+known (EquivalentClasses c d) = record { some = refl; few = refl; allowed = refl; eight = refl; number = lit< tt; clear = refl; source = λ n. refl }
+known (DisjointClasses c d) = record { some = refl; few = refl; allowed = refl; eight = refl; number = lit< tt; clear = refl; source = λ n. refl }
+known (InverseObjectProperties r s) = record { some = refl; few = refl; allowed = refl; eight = refl; number = lit< tt; clear = refl; source = λ n. refl }
+known (SubObjectPropertyOf (One r) t) = record { some = refl; few = refl; allowed = refl; eight = refl; number = lit< tt; clear = refl; source = λ n. refl }
+known (SubObjectPropertyOf (Two r s) t) = record { some = refl; few = refl; allowed = refl; eight = refl; number = lit< tt; clear = refl; source = λ n. refl }
+known (SubObjectPropertyOf (Three r s u) t) = record { some = refl; few = refl; allowed = refl; eight = refl; number = lit< tt; clear = refl; source = λ n. refl }
+known (TransitiveRole r) = record { some = refl; few = refl; allowed = refl; eight = refl; number = lit< tt; clear = refl; source = λ n. refl }
+known (SymmetricRole r) = record { some = refl; few = refl; allowed = refl; eight = refl; number = lit< tt; clear = refl; source = λ n. refl }
+known (FunctionalRole r) = record { some = refl; few = refl; allowed = refl; eight = refl; number = lit< tt; clear = refl; source = λ n. refl }
+known (InverseFunctionalRole r) = record { some = refl; few = refl; allowed = refl; eight = refl; number = lit< tt; clear = refl; source = λ n. refl }
+known (ObjectPropertyDomain r c) = record { some = refl; few = refl; allowed = refl; eight = refl; number = lit< tt; clear = refl; source = λ n. refl }
+known (ObjectPropertyRange r c) = record { some = refl; few = refl; allowed = refl; eight = refl; number = lit< tt; clear = refl; source = λ n. refl }
+known (SameIndividual i j) = record { some = refl; few = refl; allowed = refl; eight = refl; number = lit< tt; clear = refl; source = λ n. refl }
+known (ClassAssertion c i) = record { some = refl; few = refl; allowed = refl; eight = refl; number = lit< tt; clear = refl; source = λ n. refl }
+known (ObjectPropertyAssertion r i j) = record { some = refl; few = refl; allowed = refl; eight = refl; number = lit< tt; clear = refl; source = λ n. refl }
 
--- a form says which statement it is of
-axiom-filled : (x : Axiom) → axiomOf (startOf x) (fill 0 (formOf x .places) noValues) ≡ x
+-- a form says which statement it is of, whatever its source
+axiom-filled : (x : Axiom) (n : ℕ) → axiomOf (startOf x) (set (fill 0 (own x) unmarked) 8 n) ≡ x
 unfolding axiomOf pathOf startOf
-axiom-filled (SubClassOf c d) = refl
-axiom-filled (EquivalentClasses c d) = refl
-axiom-filled (DisjointClasses c d) = refl
-axiom-filled (InverseObjectProperties r s) = simp role-of-field
-axiom-filled (SubObjectPropertyOf (One r) t) = simp role-of-field
-axiom-filled (SubObjectPropertyOf (Two r s) t) = simp role-of-field
-axiom-filled (SubObjectPropertyOf (Three r s u) t) = simp role-of-field
-axiom-filled (TransitiveRole r) = simp role-of-field
-axiom-filled (SymmetricRole r) = simp role-of-field
-axiom-filled (FunctionalRole r) = simp role-of-field
-axiom-filled (InverseFunctionalRole r) = simp role-of-field
-axiom-filled (ObjectPropertyDomain r c) = simp role-of-field
-axiom-filled (ObjectPropertyRange r c) = simp role-of-field
-axiom-filled (SameIndividual i j) = refl
-axiom-filled (ClassAssertion c i) = refl
-axiom-filled (ObjectPropertyAssertion r i j) = simp role-of-field
+axiom-filled (SubClassOf c d) n = refl
+axiom-filled (EquivalentClasses c d) n = refl
+axiom-filled (DisjointClasses c d) n = refl
+axiom-filled (InverseObjectProperties r s) n = simp role-of-field
+axiom-filled (SubObjectPropertyOf (One r) t) n = simp role-of-field
+axiom-filled (SubObjectPropertyOf (Two r s) t) n = simp role-of-field
+axiom-filled (SubObjectPropertyOf (Three r s u) t) n = simp role-of-field
+axiom-filled (TransitiveRole r) n = simp role-of-field
+axiom-filled (SymmetricRole r) n = simp role-of-field
+axiom-filled (FunctionalRole r) n = simp role-of-field
+axiom-filled (InverseFunctionalRole r) n = simp role-of-field
+axiom-filled (ObjectPropertyDomain r c) n = simp role-of-field
+axiom-filled (ObjectPropertyRange r c) n = simp role-of-field
+axiom-filled (SameIndividual i j) n = refl
+axiom-filled (ClassAssertion c i) n = refl
+axiom-filled (ObjectPropertyAssertion r i j) n = simp role-of-field
+
+-- and so does a whole record's
+whole-map : (x : Statement) → mapOf (wholeOf x .places) ≡ mapOf (own (x .body)) + 256 * mapOf (marks x)
+whole-map x =
+    let q = map-append (own (x .body)) (marks x) in
+    eightfold _ _ (mapOf (marks x)) (rw (known (x .body) .eight) at q)
+  where
+    eightfold : (a b m : ℕ) → a ≡ b + (2 * (2 * (2 * (2 * (2 * (2 * (2 * (2 * m)))))))) → a ≡ b + 256 * m
+    eightfold a b m e = omega arith
+
+marks-map : (x : Statement) → mapOf (marks x) ≤ 1
+marks-map x = mark-map 0 (x .source) []
+
+whole-low : (x : Statement) → mapOf (wholeOf x .places) % 256 ≡ mapOf (own (x .body))
+whole-low x = low _ _ _ (whole-map x) (known (x .body) .number)
+  where
+    low : (a b m : ℕ) → a ≡ b + 256 * m → b < 256 → a % 256 ≡ b
+    low a b m e l = omega arith
+
+whole-top : (x : Statement) → mapOf (wholeOf x .places) < 512
+whole-top x = top _ _ _ (whole-map x) (known (x .body) .number) (marks-map x)
+  where
+    top : (a b m : ℕ) → a ≡ b + 256 * m → b < 256 → m ≤ 1 → a < 512
+    top a b m e l n = omega arith
+
+whole-short : (x : Statement) → length (wholeOf x .places) ≤ 16
+whole-short x = omega (arith, length-append (own (x .body)) (marks x), known (x .body) .eight)
+
+abbrev wholeStart : Statement → Start
+wholeStart x = record { kind = wholeOf x .kind; map = mapOf (wholeOf x .places) }
+
+statement-filled : (x : Statement) → statementOf (wholeStart x) (fill 0 (wholeOf x .places) unmarked) ≡ x
+unfolding startOf
+statement-filled x =
+    let a = own (x .body) in
+    let v = set (fill 0 a unmarked) 8 (x .source) in
+    let k = known (x .body) in
+    let q : fill 0 (wholeOf x .places) unmarked ≡ v = fill-append 0 a (marks x) unmarked ∙ (ap (λ (n : ℕ). fill (0 + n) (marks x) (fill 0 a unmarked)) (k .eight) ∙ mark-fill 8 0 (x .source) [] (fill 0 a unmarked) (k .clear)) in
+    let start = wholeStart x in
+    let low : axiomOf start v ≡ x .body = sym (axiom-low (start .kind) (start .map) v) ∙ (ap (λ (m : ℕ). axiomOf (record { kind = start .kind; map = m }) v) (whole-low x) ∙ axiom-filled (x .body) (x .source)) in
+    ap (statementOf start) q ∙ ap₂ (λ (b : Axiom) (n : ℕ). record { body = b; source = n }) low (k .source (x .source))
 
 role-fits : (r : Role) (n : ℕ) → roleId r < n → fieldOf r < 2 * n
 role-fits (Named r) n l = omega arith
@@ -105,7 +152,7 @@ module _ (h : Counts) (lim : Limits h) where
   individual-low : (c : ℕ) → c < h .individuals → Low c (h .individuals) 65536
   individual-low c l = (l, omega (arith, lim .individuals-top))
 
-  form-fits : (x : Axiom) → Within h x → Fit (statementLimits h) 65536 0 (formOf x .places)
+  form-fits : (x : Axiom) → Within h x → Fit (statementLimits h) unmarked 0 (own x)
   form-fits (SubClassOf c d) w = (concept-low c (w .0), (concept-low d (w .1), tt))
   form-fits (EquivalentClasses c d) w = (concept-low c (w .0), (concept-low d (w .1), tt))
   form-fits (DisjointClasses c d) w = (concept-low c (w .0), (concept-low d (w .1), tt))
@@ -123,32 +170,34 @@ module _ (h : Counts) (lim : Limits h) where
   form-fits (ClassAssertion c i) w = (concept-low c (w .0), (individual-low i (w .1), tt))
   form-fits (ObjectPropertyAssertion r i j) w = (role-low r (w .0), (individual-low i (w .1), (individual-low j (w .2), tt)))
 
-  no-values : (j : ℕ) → 0 ≤ j → j < 16 → getD noValues j 0 ≡ 65536
-  no-values j a l = getD-replicate 16 j 65536 0 l
+  whole-fits : (x : Statement) → StatementWithin h x → Fit (statementLimits h) unmarked 0 (wholeOf x .places)
+  whole-fits x w =
+      fit-append (statementLimits h) unmarked 0 (own (x .body)) (marks x) (form-fits (x .body) (w .body))
+      (rw (known (x .body) .eight) (mark-fit (statementLimits h) unmarked 8 0 (x .source) [] refl (w .source-top) tt))
 
-  statement-of : (s : List ℕ) (at k a m b : ℕ) (v : List ℕ) (e : ℕ) → byte s at ≡ value k a → not (eqb k 0) ≡ true → ltb k 15 ≡ true → twoBytes s a ≡ value m b → statementAllows k m ≡ true → fields m (statementLimits h) noValues 9 s b ≡ value v e → statement h s at ≡ value (axiomOf (record { kind = k; map = m }) v) e
+  statement-of : (s : List ℕ) (at k a m b : ℕ) (v : List ℕ) (e : ℕ) → byte s at ≡ value k a → not (eqb k 0) ≡ true → ltb k 15 ≡ true → twoBytes s a ≡ value m b → ltb m 512 ≡ true → statementAllows k (m % 256) ≡ true → fields m (statementLimits h) unmarked 9 s b ≡ value v e → statement h s at ≡ value (statementOf (record { kind = k; map = m }) v) e
   unfolding statement statementStart statementRest
-  statement-of s at k a m b v e t some few u allowed f = simp (t, some, few, u, allowed, f)
+  statement-of s at k a m b v e t some few u top allowed f = simp (t, some, few, u, top, allowed, f)
 
   -- a statement is read back
-  pub statement-laid : (s : List ℕ) (at : ℕ) (x : Axiom) → Within h x → Has s at (statementBytes x) → statement h s at ≡ value x (at + length (statementBytes x))
-  unfolding statementBytes fields startOf
+  pub statement-laid : (s : List ℕ) (at : ℕ) (x : Statement) → StatementWithin h x → Has s at (statementBytes x) → statement h s at ≡ value x (at + length (statementBytes x))
+  unfolding statementBytes fields
   statement-laid s at x w has =
-      let k = formOf x .kind in
-      let ps = formOf x .places in
+      let k = wholeOf x .kind in
+      let ps = wholeOf x .places in
       let m = mapOf ps in
       let a = byte-laid s at k (has .0) (has .1) in
       let b = two-laid s (at + 1) m (has .2 .0) (has .2 .1) (has .2 .2 .0) (has .2 .2 .1) in
       let z : at + 1 + 1 + 1 ≡ at + 1 + 2 = omega arith in
-      let f = fields-laid (statementLimits h) 9 s 65536 ps 16 0 noValues (at + 1 + 2) (known x .short) (lit≤ tt) no-values (form-fits x w) (rw z at (has .2 .2 .2)) in
+      let f = fields-laid (statementLimits h) 9 s unmarked ps 16 0 unmarked (at + 1 + 2) (whole-short x) (lit≤ tt) (λ j c d. refl) (whole-fits x w) (rw z at (has .2 .2 .2)) in
       let q : at + suc (suc (suc (length (bytesOf ps)))) ≡ at + 1 + 2 + length (bytesOf ps) = omega arith in
-      statement-of s at k (at + 1) m (at + 1 + 2) (fill 0 ps noValues) (at + 1 + 2 + length (bytesOf ps)) a (known x .some) (known x .few) b (known x .allowed) f
-      ∙ ap₂ (λ (y : Axiom) (z : ℕ). value y z) (axiom-filled x) (sym q)
+      statement-of s at k (at + 1) m (at + 1 + 2) (fill 0 ps unmarked) (at + 1 + 2 + length (bytesOf ps)) a (known (x .body) .some) (known (x .body) .few) b (lt-ltb _ _ (whole-top x)) (rw (whole-low x) (known (x .body) .allowed)) f
+      ∙ ap₂ (λ (y : Statement) (z : ℕ). value y z) (statement-filled x) (sym q)
 
 -- and what was read is laid out so
-module _ (h : Counts) (v : List ℕ) where
+module _ (v : List ℕ) where
   abbrev Shows : ℕ → ℕ → Type 0
-  Shows kind map = (kind ∷ map % 256 ∷ map / 256 ∷ bytesOf (placesOf 16 0 map v)) ≡ statementBytes (axiomOf (record { kind = kind; map = map }) v)
+  Shows kind map = let x = axiomOf (record { kind = kind; map = map }) v in (formOf x .kind ≡ kind) × (placesOf 8 0 map v ≡ own x)
 
   one-of : (kind map a b c : ℕ) → (eqb map a || eqb map b || eqb map c) ≡ true → Shows kind a → Shows kind b → Shows kind c → Shows kind map
   one-of kind map a b c t x y z = go (eqb map a) (eqb map b) (eqb map c) refl refl refl t
@@ -163,57 +212,90 @@ module _ (h : Counts) (v : List ℕ) where
   only kind map a t x = one-of kind map a a a t x x x
 
   kinds-show : (kind map : ℕ) → (kind ≡ 0 → ⊥) → kind < 15 → statementAllows kind map ≡ true → Shows kind map
-  unfolding axiomOf pathOf statementAllows statementBytes
+  unfolding axiomOf pathOf statementAllows
   kinds-show zero map d l t = absurd (d refl)
-  kinds-show (suc zero) map d l t = only 1 map 0x30 t refl
-  kinds-show (suc (suc zero)) map d l t = only 2 map 0x30 t refl
-  kinds-show (suc (suc (suc zero))) map d l t = only 3 map 0x30 t refl
-  kinds-show (suc (suc (suc (suc zero)))) map d l t = only 4 map 0x03 t (simp field-of-role)
-  kinds-show (suc (suc (suc (suc (suc zero))))) map d l t = one-of 5 map 0x09 0x0B 0x0F t (simp field-of-role) (simp field-of-role) (simp field-of-role)
-  kinds-show (suc (suc (suc (suc (suc (suc zero)))))) map d l t = only 6 map 0x01 t (simp field-of-role)
-  kinds-show (suc (suc (suc (suc (suc (suc (suc zero))))))) map d l t = only 7 map 0x01 t (simp field-of-role)
-  kinds-show (suc (suc (suc (suc (suc (suc (suc (suc zero)))))))) map d l t = only 8 map 0x01 t (simp field-of-role)
-  kinds-show (suc (suc (suc (suc (suc (suc (suc (suc (suc zero))))))))) map d l t = only 9 map 0x01 t (simp field-of-role)
-  kinds-show (suc (suc (suc (suc (suc (suc (suc (suc (suc (suc zero)))))))))) map d l t = only 10 map 0x11 t (simp field-of-role)
-  kinds-show (suc (suc (suc (suc (suc (suc (suc (suc (suc (suc (suc zero))))))))))) map d l t = only 11 map 0x11 t (simp field-of-role)
-  kinds-show (suc (suc (suc (suc (suc (suc (suc (suc (suc (suc (suc (suc zero)))))))))))) map d l t = only 12 map 0xC0 t refl
-  kinds-show (suc (suc (suc (suc (suc (suc (suc (suc (suc (suc (suc (suc (suc zero))))))))))))) map d l t = only 13 map 0x50 t refl
-  kinds-show (suc (suc (suc (suc (suc (suc (suc (suc (suc (suc (suc (suc (suc (suc zero)))))))))))))) map d l t = only 14 map 0xC1 t (simp field-of-role)
+  kinds-show (suc zero) map d l t = only 1 map 0x30 t (refl, refl)
+  kinds-show (suc (suc zero)) map d l t = only 2 map 0x30 t (refl, refl)
+  kinds-show (suc (suc (suc zero))) map d l t = only 3 map 0x30 t (refl, refl)
+  kinds-show (suc (suc (suc (suc zero)))) map d l t = only 4 map 0x03 t (refl, simp field-of-role)
+  kinds-show (suc (suc (suc (suc (suc zero))))) map d l t = one-of 5 map 0x09 0x0B 0x0F t (refl, simp field-of-role) (refl, simp field-of-role) (refl, simp field-of-role)
+  kinds-show (suc (suc (suc (suc (suc (suc zero)))))) map d l t = only 6 map 0x01 t (refl, simp field-of-role)
+  kinds-show (suc (suc (suc (suc (suc (suc (suc zero))))))) map d l t = only 7 map 0x01 t (refl, simp field-of-role)
+  kinds-show (suc (suc (suc (suc (suc (suc (suc (suc zero)))))))) map d l t = only 8 map 0x01 t (refl, simp field-of-role)
+  kinds-show (suc (suc (suc (suc (suc (suc (suc (suc (suc zero))))))))) map d l t = only 9 map 0x01 t (refl, simp field-of-role)
+  kinds-show (suc (suc (suc (suc (suc (suc (suc (suc (suc (suc zero)))))))))) map d l t = only 10 map 0x11 t (refl, simp field-of-role)
+  kinds-show (suc (suc (suc (suc (suc (suc (suc (suc (suc (suc (suc zero))))))))))) map d l t = only 11 map 0x11 t (refl, simp field-of-role)
+  kinds-show (suc (suc (suc (suc (suc (suc (suc (suc (suc (suc (suc (suc zero)))))))))))) map d l t = only 12 map 0xC0 t (refl, refl)
+  kinds-show (suc (suc (suc (suc (suc (suc (suc (suc (suc (suc (suc (suc (suc zero))))))))))))) map d l t = only 13 map 0x50 t (refl, refl)
+  kinds-show (suc (suc (suc (suc (suc (suc (suc (suc (suc (suc (suc (suc (suc (suc zero)))))))))))))) map d l t = only 14 map 0xC1 t (refl, simp field-of-role)
   kinds-show (suc (suc (suc (suc (suc (suc (suc (suc (suc (suc (suc (suc (suc (suc (suc k))))))))))))))) map d l t = absurd (omega arith)
 
-pub values-room : 0 + 16 ≤ length noValues
+values-room : 0 + 16 ≤ length unmarked
 values-room = omega arith
 
-module _ (s : List ℕ) (h : Counts) (at : ℕ) (x : Axiom) (e : ℕ) where
+-- the places of what was read: those of what it says, its source, and gaps
+module _ (m : ℕ) (l : m < 512) (v : List ℕ) where
+  ninth : m / 2 / 2 / 2 / 2 / 2 / 2 / 2 / 2 / 2 ≡ 0
+  ninth = omega arith
+
+  small : Small 16 m
+  small = rw ninth (small-zero 7)
+
+  nth-place : (ps qs : List Place) (p q : Place) (rs ts : List Place) → length ps ≡ length qs → ps ++ (p ∷ rs) ≡ qs ++ (q ∷ ts) → p ≡ q
+  nth-place [] [] p q rs ts n e = cc
+  nth-place [] (b ∷ qs) p q rs ts n e = absurd (omega arith)
+  nth-place (a ∷ ps) [] p q rs ts n e = absurd (omega arith)
+  nth-place (a ∷ ps) (b ∷ qs) p q rs ts n e = let f : ps ++ (p ∷ rs) ≡ qs ++ (q ∷ ts) = cc in nth-place ps qs p q rs ts (omega arith) f
+
+  source-place : placesOf 16 0 m v ≡ marksFrom unmarked 16 0 v → pick (eqb (m / 2 / 2 / 2 / 2 / 2 / 2 / 2 / 2 % 2) 0) gap (put (getD v 8 0)) ≡ mark 0 (getD v 8 0)
+  source-place e = nth-place (placesOf 8 0 m v) (marksFrom unmarked 8 0 v) _ _ (placesOf 7 9 (m / 2 / 2 / 2 / 2 / 2 / 2 / 2 / 2 / 2) v) (marksFrom unmarked 7 9 v) refl e
+
+  places-shown : (kind : ℕ) → (kind ≡ 0 → ⊥) → kind < 15 → statementAllows kind (m % 256) ≡ true → placesOf 16 0 m v ≡ marksFrom unmarked 16 0 v → (formOf (axiomOf (record { kind = kind; map = m }) v) .kind ≡ kind) × (placesOf 16 0 m v ≡ wholeOf (statementOf (record { kind = kind; map = m }) v) .places ++ replicate 7 gap)
+  places-shown kind some few allowed e =
+      let x = statementOf (record { kind = kind; map = m }) v in
+      let shows = subst (λ (a : Axiom). (formOf a .kind ≡ kind) × (placesOf 8 0 (m % 256) v ≡ own a)) (axiom-low kind m v) (kinds-show v kind (m % 256) some few allowed) in
+      let first : placesOf 8 0 m v ≡ own (x .body) = sym (bits-places 8 0 (m % 256) m v (λ j n. low-bits m j n)) ∙ shows .1 in
+      let last : placesOf 7 9 (m / 2 / 2 / 2 / 2 / 2 / 2 / 2 / 2 / 2) v ≡ replicate 7 gap = ap (λ (y : ℕ). placesOf 7 9 y v) ninth ∙ gaps 7 9 v in
+      let all : placesOf 8 0 m v ++ (pick (eqb (m / 2 / 2 / 2 / 2 / 2 / 2 / 2 / 2 % 2) 0) gap (put (getD v 8 0)) ∷ placesOf 7 9 (m / 2 / 2 / 2 / 2 / 2 / 2 / 2 / 2 / 2) v) ≡ own (x .body) ++ (mark 0 (getD v 8 0) ∷ replicate 7 gap) = ap₂ (λ (a : List Place) (b : List Place). a ++ b) first (ap₂ (λ (p : Place) (l : List Place). p ∷ l) (source-place e) last) in
+      (shows .0, all ∙ sym (append-assoc (own (x .body)) (marks x) (replicate 7 gap)))
+
+shown : (y : Start) (k m : ℕ) (v : List ℕ) {l : List ℕ} → k ≡ wholeOf (statementOf y v) .kind → m ≡ mapOf (wholeOf (statementOf y v) .places) → l ≡ bytesOf (wholeOf (statementOf y v) .places) → (k ∷ m % 256 ∷ m / 256 ∷ l) ≡ statementBytes (statementOf y v)
+unfolding statementBytes
+shown y k m v p q r = rw (p, q, r) refl
+
+module _ (s : List ℕ) (h : Counts) (at : ℕ) (x : Statement) (e : ℕ) where
   pub statement-read : statement h s at ≡ value x e → Laid s at e (statementBytes x)
-  unfolding statement statementStart statementRest fields
+  unfolding statementStart fields
   statement-read t =
-      let p = came (statementStart s at) _ x e t in
-      let st = start-known s at (p .0) (p .1) (p .2) in
-      let a = came (byte s at) _ (p .0) (p .1) (p .2) in
-      let z = held (not (eqb (a .0) 0)) 7 s (a .1) _ (p .0) (p .1) (a .3) in
-      let b = held (ltb (a .0) 15) 7 s (a .1) _ (p .0) (p .1) (z .1) in
-      let c = came (twoBytes s (a .1)) _ (p .0) (p .1) (b .1) in
-      let d = held (statementAllows (a .0) (c .0)) 8 s (c .1) _ (p .0) (p .1) (c .3) in
+      let p = through s h at x e t in
+      let st = start-known s at (p .start) (p .then) (p .started) in
+      let a = came (byte s at) _ (p .start) (p .then) (p .started) in
+      let z = held (not (eqb (a .0) 0)) 7 s (a .1) _ (p .start) (p .then) (a .3) in
+      let b = held (ltb (a .0) 15) 7 s (a .1) _ (p .start) (p .then) (z .1) in
+      let c = came (twoBytes s (a .1)) _ (p .start) (p .then) (b .1) in
+      let n = held (ltb (c .0) 512) 8 s (c .1) _ (p .start) (p .then) (c .3) in
+      let d = held (statementAllows (a .0) (c .0 % 256)) 8 s (c .1) _ (p .start) (p .then) (n .1) in
       let y : Start = record { kind = a .0; map = c .0 } in
-      let o = same-value y (p .0) (c .1) (p .1) (d .1) in
-      let f = came (fieldsFrom (statementLimits h) 9 16 0 (p .0 .map) noValues s (p .1)) _ x e (p .3) in
-      let g = same-value (axiomOf (p .0) (f .0)) x (f .1) e (f .3) in
+      let o = same-value y (p .start) (c .1) (p .then) (d .1) in
       let r = two-read s (a .1) (c .0) (c .1) (c .2) in
       let l₁ = byte-read s at (a .0) (a .1) (a .2) in
       let l₂ = two-bytes s (a .1) (c .0) (c .1) (r .0) (r .1) (r .2) in
-      let l₃ = fields-read (statementLimits h) 9 s (f .0) (f .1) 16 0 (p .0 .map) noValues (p .1) values-room (f .2) in
-      stated (p .0) (a .0) (a .1) (c .0) (c .1) (p .1) (f .0) (f .1) (st .kind-some) (st .kind-known) (st .map-known) (o .0) (o .1) (g .0) (g .1) l₁ l₂ l₃
+      let l₃ = fields-read (statementLimits h) 9 s (p .values) e 16 0 (p .start .map) unmarked (p .then) values-room (p .run) in
+      let placed = marks-placed (statementLimits h) 9 s (p .values) e unmarked 16 0 (p .start .map) unmarked (p .then) values-room (λ j a b. refl) (p .run) in
+      let shown = places-shown (p .start .map) (st .map-top) (p .values) (p .start .kind) (st .kind-some) (st .kind-known) (st .map-known) placed in
+      stated (p .start) (a .0) (a .1) (c .0) (c .1) (p .then) (p .values) (st .map-top) (shown .0) (shown .1) (o .0) (o .1) (p .made) l₁ l₂ l₃
     where
-      stated : (y : Start) (k a m b c : ℕ) (v : List ℕ) (f : ℕ) → (y .kind ≡ 0 → ⊥) → y .kind < 15 → statementAllows (y .kind) (y .map) ≡ true → record { kind = k; map = m } ≡ y → b ≡ c → axiomOf y v ≡ x → f ≡ e → Laid s at a (k ∷ []) → Laid s a b (twoOf m) → Laid s c f (bytesOf (placesOf 16 0 (y .map) v)) → Laid s at e (statementBytes x)
-      stated y k a m b c v f some few allowed o q g n l₁ l₂ l₃ =
+      stated : (y : Start) (k a m b c : ℕ) (v : List ℕ) → y .map < 512 → formOf (axiomOf y v) .kind ≡ y .kind → placesOf 16 0 (y .map) v ≡ wholeOf (statementOf y v) .places ++ replicate 7 gap → record { kind = k; map = m } ≡ y → b ≡ c → statementOf y v ≡ x → Laid s at a (k ∷ []) → Laid s a b (twoOf m) → Laid s c e (bytesOf (placesOf 16 0 (y .map) v)) → Laid s at e (statementBytes x)
+      stated y k a m b c v top kind places o q g l₁ l₂ l₃ =
           let k′ : k ≡ y .kind = ap (λ (z : Start). z .kind) o in
           let m′ : m ≡ y .map = ap (λ (z : Start). z .map) o in
-          let shows = kinds-show h v (y .kind) (y .map) some few allowed in
+          let ps = wholeOf (statementOf y v) .places in
+          let n : mapOf ps ≡ y .map = sym (gaps-map ps 7) ∙ (ap mapOf (sym places) ∙ places-map 16 0 (y .map) v (small (y .map) top v)) in
+          let bs : bytesOf (placesOf 16 0 (y .map) v) ≡ bytesOf ps = ap bytesOf places ∙ gaps-bytes ps 7 in
           let head : Laid s at b (k ∷ twoOf m) = laid-then (k ∷ []) (twoOf m) l₁ l₂ in
-          let all : Laid s at f (k ∷ twoOf m ++ bytesOf (placesOf 16 0 (y .map) v)) = laid-then (k ∷ twoOf m) (bytesOf (placesOf 16 0 (y .map) v)) head (rw q l₃) in
-          let all′ : Laid s at f (y .kind ∷ y .map % 256 ∷ y .map / 256 ∷ bytesOf (placesOf 16 0 (y .map) v)) = rw (k′, m′) at all in
-          subst₂ (λ (z : Axiom) (w : ℕ). Laid s at w (statementBytes z)) g n (rw shows at all′)
+          let all : Laid s at e (k ∷ twoOf m ++ bytesOf (placesOf 16 0 (y .map) v)) = laid-then (k ∷ twoOf m) (bytesOf (placesOf 16 0 (y .map) v)) head (rw q l₃) in
+          let shows : (k ∷ m % 256 ∷ m / 256 ∷ bytesOf (placesOf 16 0 (y .map) v)) ≡ statementBytes (statementOf y v) = shown y k m v (k′ ∙ sym kind) (m′ ∙ sym n) bs in
+          subst (λ (z : Statement). Laid s at e (statementBytes z)) g (subst (Laid s at e) shows all)
 
 -- a repeat is an equal statement, and the other way round
 same-places : (ps qs : List Place) → samePlaces ps qs ≡ true → ps ≡ qs
@@ -233,17 +315,17 @@ places-same [] = refl
 places-same (gap ∷ ps) = places-same ps
 places-same (put v ∷ ps) = simp (eq-eqb v v refl, places-same ps)
 
-pub repeats-equal : (x y : Axiom) → repeats x y ≡ true → x ≡ y
-unfolding repeats startOf
-repeats-equal x y t =
-    let b = and-true (eqb (formOf x .kind) (formOf y .kind)) (samePlaces (formOf x .places) (formOf y .places)) t in
-    let k = eqb-true _ _ (b .0) in
-    let p = same-places (formOf x .places) (formOf y .places) (b .1) in
-    sym (axiom-filled x) ∙ (ap₂ (λ (a : ℕ) (ps : List Place). axiomOf (record { kind = a; map = mapOf ps }) (fill 0 ps noValues)) k p ∙ axiom-filled y)
-
-pub repeats-self : (x : Axiom) → repeats x x ≡ true
+pub repeats-equal : (x y : Statement) → repeats x y ≡ true → x ≡ y
 unfolding repeats
-repeats-self x = simp (eq-eqb (formOf x .kind) (formOf x .kind) refl, places-same (formOf x .places))
+repeats-equal x y t =
+    let b = and-true (eqb (wholeOf x .kind) (wholeOf y .kind)) (samePlaces (wholeOf x .places) (wholeOf y .places)) t in
+    let k = eqb-true _ _ (b .0) in
+    let p = same-places (wholeOf x .places) (wholeOf y .places) (b .1) in
+    sym (statement-filled x) ∙ (ap₂ (λ (a : ℕ) (ps : List Place). statementOf (record { kind = a; map = mapOf ps }) (fill 0 ps unmarked)) k p ∙ statement-filled y)
+
+pub repeats-self : (x : Statement) → repeats x x ≡ true
+unfolding repeats
+repeats-self x = simp (eq-eqb (wholeOf x .kind) (wholeOf x .kind) refl, places-same (wholeOf x .places))
 
 -- statements one after the other, from the front
 module _ {A : Type 0} (p : Parser A) (s : List ℕ) (at : ℕ) (x : A) (m : ℕ) (first : p s at ≡ value x m) where
@@ -262,7 +344,7 @@ module _ {A : Type 0} (p : Parser A) (s : List ℕ) (at : ℕ) (x : A) (m : ℕ)
           ∙ ap₂ (λ (l : List A) (n : ℕ). value (x ∷ l) n) (q .0) (q .1)
 
 module _ (h : Counts) (lim : Limits h) (s : List ℕ) where
-  pub statements-laid : (xs : List Axiom) → Every (Within h) xs → (at : ℕ) → Has s at (statementsBytes xs) → several (statement h) (length xs) s at ≡ value xs (at + length (statementsBytes xs))
+  pub statements-laid : (xs : List Statement) → Every (StatementWithin h) xs → (at : ℕ) → Has s at (statementsBytes xs) → several (statement h) (length xs) s at ≡ value xs (at + length (statementsBytes xs))
   unfolding statementsBytes
   statements-laid [] w at has = let q : at + 0 ≡ at = omega arith in rw q (several-none (statement h) s at)
   statements-laid (x ∷ xs) w at has =
@@ -272,20 +354,20 @@ module _ (h : Counts) (lim : Limits h) (s : List ℕ) where
       let q : at + length (b ++ r) ≡ at + length b + length r = omega (arith, length-append b r) in
       rw q (several-front (statement h) s at x (at + length b) a (length xs) xs (at + length b + length r) (statements-laid xs (w .1) (at + length b) (has-back s b r at has)))
 
-pub bytes-snoc : (xs : List Axiom) (x : Axiom) → statementsBytes (xs ++ (x ∷ [])) ≡ statementsBytes xs ++ statementBytes x
+pub bytes-snoc : (xs : List Statement) (x : Statement) → statementsBytes (xs ++ (x ∷ [])) ≡ statementsBytes xs ++ statementBytes x
 unfolding statementsBytes
 bytes-snoc [] x = append-nil (statementBytes x)
 bytes-snoc (y ∷ xs) x = ap (λ (l : List ℕ). statementBytes y ++ l) (bytes-snoc xs x) ∙ sym (append-assoc (statementBytes y) (statementsBytes xs) (statementBytes x))
 
-pub statements-read : (s : List ℕ) (h : Counts) (at n : ℕ) (xs : List Axiom) (e : ℕ) → several (statement h) n s at ≡ value xs e → Laid s at e (statementsBytes xs)
+pub statements-read : (s : List ℕ) (h : Counts) (at n : ℕ) (xs : List Statement) (e : ℕ) → several (statement h) n s at ≡ value xs e → Laid s at e (statementsBytes xs)
 unfolding several statementsBytes
-statements-read s h at zero xs e t = let q = same-value [] xs at e t in subst₂ (λ (l : List Axiom) (m : ℕ). Laid s at m (statementsBytes l)) (q .0) (q .1) (record { ends = omega arith; has = λ f. tt })
+statements-read s h at zero xs e t = let q = same-value [] xs at e t in subst₂ (λ (l : List Statement) (m : ℕ). Laid s at m (statementsBytes l)) (q .0) (q .1) (record { ends = omega arith; has = λ f. tt })
 statements-read s h at (suc n) xs e t = step (statements-read s h at n)
   where
-    step : ((ys : List Axiom) (m : ℕ) → several (statement h) n s at ≡ value ys m → Laid s at m (statementsBytes ys)) → Laid s at e (statementsBytes xs)
+    step : ((ys : List Statement) (m : ℕ) → several (statement h) n s at ≡ value ys m → Laid s at m (statementsBytes ys)) → Laid s at e (statementsBytes xs)
     step ih =
         let a = came (several (statement h) n s at) _ xs e t in
         let b = came (statement h s (a .1)) _ xs e (a .3) in
         let q = same-value (a .0 ++ (b .0 ∷ [])) xs (b .1) e (b .3) in
         let l = laid-then (statementsBytes (a .0)) (statementBytes (b .0)) (ih (a .0) (a .1) (a .2)) (statement-read s h (a .1) (b .0) (b .1) (b .2)) in
-        subst₂ (λ (l : List Axiom) (m : ℕ). Laid s at m (statementsBytes l)) (q .0) (q .1) (rw (bytes-snoc (a .0) (b .0)) l)
+        subst₂ (λ (l : List Statement) (m : ℕ). Laid s at m (statementsBytes l)) (q .0) (q .1) (rw (bytes-snoc (a .0) (b .0)) l)

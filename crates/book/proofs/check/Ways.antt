@@ -15,7 +15,7 @@ use Rattle.book.specs.declared.header.ReadHeader.the-variants.{Next as C
 use Rattle.book.specs.declared.concept.ConceptExpr.{ConceptExpr}
 use Rattle.book.specs.declared.concept.ReadConcept.{ReadConcept}
 use Rattle.book.specs.declared.concept.ReadConcept.the-variants.{Next, Refused}
-use Rattle.book.specs.declared.statement.Axiom.{Axiom}
+use Rattle.book.specs.declared.statement.Statement.{Statement}
 use Rattle.book.specs.declared.statement.ReadStatement.{ReadStatement}
 use Rattle.book.specs.declared.statement.ReadStatement.the-variants.{Next as Stated, Refused as Unstated}
 use Rattle.book.specs.declared.check.Checked.the-variants.{Accepted, Refused as Faulty}
@@ -88,7 +88,7 @@ module _ (s : List ℕ) (h : Counts) (at : ℕ) where
 -- the statements are a walk
 module _ (s : List ℕ) (h : Counts) (at : ℕ) where
   abbrev pub StatementsPassed : ℕ → ℕ → Type 0
-  StatementsPassed k here = (xs : List Axiom) × (several (statement h) k s at ≡ value xs here)
+  StatementsPassed k here = (xs : List Statement) × (several (statement h) k s at ≡ value xs here)
 
   pub none-passed : StatementsPassed 0 at
   none-passed = ([], several-none (statement h) s at)
@@ -97,7 +97,7 @@ module _ (s : List ℕ) (h : Counts) (at : ℕ) where
     pub statements-refused : (n count : ℕ) (p : Passed) → k < count → r ≡ Unstated n → asPassed p ≡ passed (asStatement r) → asPassed p ≡ passed (several (statement h) count s at)
     statements-refused n count p l f g = g ∙ simp (f, several-refused (statement h) s at k (i .0) here n count (i .1) (sym read ∙ simp f) l)
 
-    pub statements-again : (x : Axiom) (next : ℕ) → r ≡ Stated x next → StatementsPassed (k + 1) next
+    pub statements-again : (x : Statement) (next : ℕ) → r ≡ Stated x next → StatementsPassed (k + 1) next
     statements-again x next f = (i .0 ++ (x ∷ []), several-more (statement h) s at k (i .0) here x next (i .1) (sym read ∙ simp f))
 
   pub statements-done : (k here count : ℕ) → StatementsPassed k here → k ≤ count → count ≤ k → value tt here ≡ passed (several (statement h) count s at)
@@ -129,7 +129,7 @@ module _ (s offsets : List ℕ) where
           book-statements n f = refuses n (simp (← read, counted, trees .1, passed-refusal (several (statement h) (h .statements) s then) n (sym second ∙ simp f)))
 
           module _ (end : ℕ) (last : q ≡ On end) where
-            statements : (xs : List Axiom) × (several (statement h) (h .statements) s then ≡ value xs end)
+            statements : (xs : List Statement) × (several (statement h) (h .statements) s then ≡ value xs end)
             statements = passed-value (several (statement h) (h .statements) s then) end (sym second ∙ simp last)
 
             pub book-longer : end < length s → BookChecked s (Faulty 10) offsets

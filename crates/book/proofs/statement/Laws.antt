@@ -1,22 +1,22 @@
--- A statement that is not refused keeps to the counts, and takes at least three bytes.
-use Prim.Native.Nat.{ℕ, zero, suc, _<_}
+-- A statement that is not refused keeps to the counts, its source too, and takes at least three bytes.
+use Prim.Native.Nat.{ℕ, zero, suc, _/_, _%_, _≤_, _<_}
 use native.Mathlib.Omega.{arith}
-use mathlib.Core.Path.{_≡_, refl, sym, subst}
+use native.Mathlib.Decide.{decLt}
+use mathlib.Core.Path.{_≡_, refl, sym, ap, _∙_, subst}
 use mathlib.Core.Bool.{Bool, true, false, not, _||_}
 use mathlib.Core.List.{List}
-use mathlib.Core.Logic.{⊎-elim}
+use mathlib.Core.Logic.{_⊎_, ⊎-elim}
 use lib.ListN.{getD}
 use lib.Dec.{ltb, eqb, lit<}
 use borrow.Author.Tests.{ltb-true, eqb-true, eqb-false, not-true}
 use Rattle.book.specs.declared.header.Counts.{Counts}
 use Rattle.book.specs.declared.table.Start.{Start}
-use Rattle.book.specs.declared.statement.Axiom.{Axiom}
+use Rattle.book.specs.declared.statement.Statement.{Statement}
 use Rattle.book.specs.Read.{value}
 use Rattle.book.specs.Table.{statementAllows}
 use Rattle.book.specs.Field.{byte, twoBytes, fields}
-use Rattle.book.specs.Concept.{noValues}
-use Rattle.book.specs.Statement.{statementStart, statementLimits, pathOf, axiomOf, statementRest, statement}
-use Rattle.book.specs.Within.{Within}
+use Rattle.book.specs.Statement.{statementStart, statementLimits, unmarked, pathOf, assertion, axiomKinds, axiomOf, statementOf, statementRest, statement}
+use Rattle.book.specs.Within.{Within, StatementWithin}
 use Rattle.book.proofs.Parsing.{came, held, same-value, Goes}
 use Rattle.book.proofs.role.Laws.{role-below}
 use Rattle.book.proofs.field.Laws.{byte-goes, two-goes, bitAt, fields-range, fields-goes}
@@ -26,7 +26,8 @@ module _ (s : List ℕ) (at : ℕ) (x : Start) (next : ℕ) (read : statementSta
   pub record StartKnown : Type 0 where
     pub kind-some : x .kind ≡ 0 → ⊥
     pub kind-known : x .kind < 15
-    pub map-known : statementAllows (x .kind) (x .map) ≡ true
+    pub map-top : x .map < 512
+    pub map-known : statementAllows (x .kind) (x .map % 256) ≡ true
     pub goes : Goes 3 s at next
 
   pub start-known : StartKnown
@@ -36,17 +37,19 @@ module _ (s : List ℕ) (at : ℕ) (x : Start) (next : ℕ) (read : statementSta
       let z = held (not (eqb (a .0) 0)) 7 s (a .1) _ x next (a .3) in
       let b = held (ltb (a .0) 15) 7 s (a .1) _ x next (z .1) in
       let c = came (twoBytes s (a .1)) _ x next (b .1) in
-      let d = held (statementAllows (a .0) (c .0)) 8 s (c .1) _ x next (c .3) in
+      let m = held (ltb (c .0) 512) 8 s (c .1) _ x next (c .3) in
+      let d = held (statementAllows (a .0) (c .0 % 256)) 8 s (c .1) _ x next (m .1) in
       let y : Start = record { kind = a .0; map = c .0 } in
       let e = same-value y x (c .1) next (d .1) in
       let g = byte-goes s at (a .0) (a .1) (a .2) in
       let g′ = two-goes s (a .1) (c .0) (c .1) (c .2) in
       let some : y .kind ≡ 0 → ⊥ = eqb-false (a .0) 0 (not-true (eqb (a .0) 0) (z .0)) in
-      let known : statementAllows (y .kind) (y .map) ≡ true = d .0 in
+      let known : statementAllows (y .kind) (y .map % 256) ≡ true = d .0 in
       record {
         kind-some = subst (λ (w : Start). w .kind ≡ 0 → ⊥) (e .0) some;
         kind-known = subst (λ (w : Start). w .kind < 15) (e .0) (ltb-true (a .0) 15 (b .0));
-        map-known = subst (λ (w : Start). statementAllows (w .kind) (w .map) ≡ true) (e .0) known;
+        map-top = subst (λ (w : Start). w .map < 512) (e .0) (ltb-true (c .0) 512 (m .0));
+        map-known = subst (λ (w : Start). statementAllows (w .kind) (w .map % 256) ≡ true) (e .0) known;
         goes = (omega (arith, g .0, g′ .0, e .1), omega (arith, g′ .1, e .1));
       }
 
@@ -94,24 +97,91 @@ module _ (h : Counts) (v : List ℕ) where
   kinds-keep (suc (suc (suc (suc (suc (suc (suc (suc (suc (suc (suc (suc (suc (suc zero)))))))))))))) map d l t = only 14 map 0xC1 t (λ f. (role-below _ _ (f 0 (lit< tt) (omega arith)), f 6 (lit< tt) (omega arith), f 7 (lit< tt) (omega arith)))
   kinds-keep (suc (suc (suc (suc (suc (suc (suc (suc (suc (suc (suc (suc (suc (suc (suc k))))))))))))))) map d l t = absurd (omega arith)
 
-module _ (s : List ℕ) (h : Counts) (at : ℕ) (x : Axiom) (next : ℕ) (read : statement h s at ≡ value x next) where
-  pub statement-within : Within h x
+-- the bits of a map's low byte are bits of the map
+no-bit : (j : ℕ) → bitAt 0 j ≡ 0
+no-bit zero = refl
+no-bit (suc j) = no-bit j
+
+pub low-bits : (map j : ℕ) → j < 8 → bitAt (map % 256) j ≡ bitAt map j
+low-bits map zero l = omega arith
+low-bits map (suc zero) l = omega arith
+low-bits map (suc (suc zero)) l = omega arith
+low-bits map (suc (suc (suc zero))) l = omega arith
+low-bits map (suc (suc (suc (suc zero)))) l = omega arith
+low-bits map (suc (suc (suc (suc (suc zero))))) l = omega arith
+low-bits map (suc (suc (suc (suc (suc (suc zero)))))) l = omega arith
+low-bits map (suc (suc (suc (suc (suc (suc (suc zero))))))) l = omega arith
+low-bits map (suc (suc (suc (suc (suc (suc (suc (suc j)))))))) l = absurd (omega arith)
+
+high-bits : (map j : ℕ) → 8 ≤ j → bitAt (map % 256) j ≡ 0
+high-bits map (suc (suc (suc (suc (suc (suc (suc (suc j)))))))) l =
+    let z : map % 256 / 2 / 2 / 2 / 2 / 2 / 2 / 2 / 2 ≡ 0 = omega arith in
+    ap (λ (m : ℕ). bitAt m j) z ∙ no-bit j
+high-bits map zero l = absurd (omega arith)
+high-bits map (suc zero) l = absurd (omega arith)
+high-bits map (suc (suc zero)) l = absurd (omega arith)
+high-bits map (suc (suc (suc zero))) l = absurd (omega arith)
+high-bits map (suc (suc (suc (suc zero)))) l = absurd (omega arith)
+high-bits map (suc (suc (suc (suc (suc zero))))) l = absurd (omega arith)
+high-bits map (suc (suc (suc (suc (suc (suc zero)))))) l = absurd (omega arith)
+high-bits map (suc (suc (suc (suc (suc (suc (suc zero))))))) l = absurd (omega arith)
+
+low-bit : (map j : ℕ) → (bitAt (map % 256) j ≡ 0 → ⊥) → bitAt map j ≡ 0 → ⊥
+low-bit map j f e = go (decLt j 8)
+  where
+    go : Dec (j < 8) → ⊥
+    go (yes l) = f (low-bits map j l ∙ e)
+    go (no n) = f (high-bits map j (omega arith))
+
+pub axiom-low : (kind map : ℕ) (v : List ℕ) → axiomOf (record { kind = kind; map = map % 256 }) v ≡ axiomOf (record { kind = kind; map = map }) v
+unfolding axiomOf
+axiom-low kind map v = let q : map % 256 % 256 ≡ map % 256 = omega arith in ap (λ (m : ℕ). getD (axiomKinds m v) kind (assertion v)) q
+
+module _ (s : List ℕ) (h : Counts) (at : ℕ) (x : Statement) (next : ℕ) (read : statement h s at ≡ value x next) where
+  -- what a statement went through
+  pub record Through : Type 0 where
+    pub start : Start
+    pub then : ℕ
+    pub started : statementStart s at ≡ value start then
+    pub values : List ℕ
+    pub run : fields (start .map) (statementLimits h) unmarked 9 s then ≡ value values next
+    pub made : statementOf start values ≡ x
+
+  pub through : Through
   unfolding statement statementRest
-  statement-within =
+  through =
       let a = came (statementStart s at) _ x next read in
-      let st = start-known s at (a .0) (a .1) (a .2) in
-      let b = came (fields (a .0 .map) (statementLimits h) noValues 9 s (a .1)) _ x next (a .3) in
-      let e = same-value (axiomOf (a .0) (b .0)) x (b .1) next (b .3) in
-      subst (Within h) (e .0)
-      (kinds-keep h (b .0) (a .0 .kind) (a .0 .map) (st .kind-some) (st .kind-known) (st .map-known)
-      (λ j l set. ⊎-elim (λ low. low) (λ gone. absurd (set (gone .0))) (fields-range (statementLimits h) 9 s (b .0) (b .1) (a .0 .map) noValues (a .1) refl (b .2) j l)))
+      let b = came (fields (a .0 .map) (statementLimits h) unmarked 9 s (a .1)) _ x next (a .3) in
+      let e = same-value (statementOf (a .0) (b .0)) x (b .1) next (b .3) in
+      record {
+        start = a .0;
+        then = a .1;
+        started = a .2;
+        values = b .0;
+        run = b .2 ∙ ap (value (b .0)) (e .1);
+        made = e .0;
+      }
+
+  -- a field that is not there has its absent value
+  ranged : (j : ℕ) → j < 16 → (getD (through .values) j 0 < getD (statementLimits h) j 0) ⊎ ((bitAt (through .start .map) j ≡ 0) × (getD (through .values) j 0 ≡ getD unmarked j 0))
+  ranged j l = fields-range (statementLimits h) 9 s (through .values) next (through .start .map) unmarked (through .then) refl (through .run) j l
+
+  pub statement-within : StatementWithin h x
+  statement-within =
+      let t = through in
+      let k = start-known s at (t .start) (t .then) (t .started) in
+      subst (StatementWithin h) (t .made)
+      (record {
+        body =
+            subst (Within h) (axiom-low (t .start .kind) (t .start .map) (t .values))
+            (kinds-keep h (t .values) (t .start .kind) (t .start .map % 256) (k .kind-some) (k .kind-known) (k .map-known)
+            (λ j l set. ⊎-elim (λ low. low) (λ gone. absurd (low-bit (t .start .map) j set (gone .0))) (ranged j l)));
+        source-top = ⊎-elim (λ low. low) (λ gone. omega (arith, gone .1)) (ranged 8 (lit< tt));
+      })
 
   pub statement-goes : Goes 3 s at next
-  unfolding statement statementRest
   statement-goes =
-      let a = came (statementStart s at) _ x next read in
-      let st = start-known s at (a .0) (a .1) (a .2) in
-      let b = came (fields (a .0 .map) (statementLimits h) noValues 9 s (a .1)) _ x next (a .3) in
-      let e = same-value (axiomOf (a .0) (b .0)) x (b .1) next (b .3) in
-      let g = fields-goes (statementLimits h) 9 s (b .0) (b .1) (a .0 .map) noValues (a .1) (st .goes .1) (b .2) in
-      (omega (arith, st .goes .0, g .0, e .1), omega (arith, g .1, e .1))
+      let t = through in
+      let k = start-known s at (t .start) (t .then) (t .started) in
+      let g = fields-goes (statementLimits h) 9 s (t .values) next (t .start .map) unmarked (t .then) (k .goes .1) (t .run) in
+      (omega (arith, k .goes .0, g .0), g .1)

@@ -1,5 +1,5 @@
 -- The ways out of the statement record's readers.
-use Prim.Native.Nat.{ℕ, zero, suc, _≤_, _<_}
+use Prim.Native.Nat.{ℕ, zero, suc, _%_, _≤_, _<_}
 use native.Mathlib.Omega.{arith}
 use mathlib.Core.Path.{_≡_, refl, sym}
 use mathlib.Core.Bool.{Bool, true, false}
@@ -16,13 +16,13 @@ use Rattle.book.specs.declared.table.Start.{Start}
 use Rattle.book.specs.declared.table.ReadStart.{ReadStart}
 use Rattle.book.specs.declared.table.ReadStart.the-variants.{Next as Started, Refused as Unstarted}
 use Rattle.book.specs.declared.statement.SubRolePath.the-variants.{One, Two, Three}
-use Rattle.book.specs.declared.statement.Axiom.{Axiom}
+use Rattle.book.specs.declared.statement.Statement.{Statement}
 use Rattle.book.specs.declared.statement.ReadStatement.{ReadStatement}
 use Rattle.book.specs.Read.{value, refusal}
 use Rattle.book.specs.Field.{byte, twoBytes, fields, asField, asFields}
 use Rattle.book.specs.Table.{statementAllows}
-use Rattle.book.specs.Concept.{noValues, asStart}
-use Rattle.book.specs.Statement.{statementStart, statementLimits, pathOf, assertion, axiomKinds, axiomOf, statementRest, statement, asStatement}
+use Rattle.book.specs.Concept.{asStart}
+use Rattle.book.specs.Statement.{statementStart, statementLimits, unmarked, pathOf, assertion, axiomKinds, axiomOf, statementOf, statementRest, statement, asStatement}
 
 abbrev start : ℕ → ℕ → Start
 start kind map = record { kind = kind; map = map }
@@ -46,16 +46,20 @@ module _ (s : List ℕ) (at : ℕ) (r : ReadField) where
       unfolding statementStart
       start-mapless n e f z h g q = simp (← e, f, ne-eqb _ _ z, lt-ltb _ _ h, ← g, q)
 
+      pub start-high : (map next : ℕ) → asField r ≡ byte s at → r ≡ Next kind then → (kind ≡ 0 → ⊥) → kind < 15 → asField m ≡ twoBytes s then → m ≡ Next map next → 512 ≤ map → refusal 8 ≡ statementStart s at
+      unfolding statementStart
+      start-high map next e f z h g q a = simp (← e, f, ne-eqb _ _ z, lt-ltb _ _ h, ← g, q, le-ltb _ _ a)
+
       module _ (map next : ℕ) (allowed : Bool) where
-        pub start-of : asField r ≡ byte s at → r ≡ Next kind then → (kind ≡ 0 → ⊥) → kind < 15 → asField m ≡ twoBytes s then → m ≡ Next map next → allowed ≡ statementAllows kind map → allowed ≡ true → value (start kind map) next ≡ statementStart s at
+        pub start-of : asField r ≡ byte s at → r ≡ Next kind then → (kind ≡ 0 → ⊥) → kind < 15 → asField m ≡ twoBytes s then → m ≡ Next map next → map < 512 → allowed ≡ statementAllows kind (map % 256) → allowed ≡ true → value (start kind map) next ≡ statementStart s at
         unfolding statementStart
-        start-of e f z h g q a b = simp (← e, f, ne-eqb _ _ z, lt-ltb _ _ h, ← g, q, ← a, b)
+        start-of e f z h g q l a b = simp (← e, f, ne-eqb _ _ z, lt-ltb _ _ h, ← g, q, lt-ltb _ _ l, ← a, b)
 
-        pub start-disallowed : asField r ≡ byte s at → r ≡ Next kind then → (kind ≡ 0 → ⊥) → kind < 15 → asField m ≡ twoBytes s then → m ≡ Next map next → allowed ≡ statementAllows kind map → allowed ≡ false → refusal 8 ≡ statementStart s at
+        pub start-disallowed : asField r ≡ byte s at → r ≡ Next kind then → (kind ≡ 0 → ⊥) → kind < 15 → asField m ≡ twoBytes s then → m ≡ Next map next → map < 512 → allowed ≡ statementAllows kind (map % 256) → allowed ≡ false → refusal 8 ≡ statementStart s at
         unfolding statementStart
-        start-disallowed e f z h g q a b = simp (← e, f, ne-eqb _ _ z, lt-ltb _ _ h, ← g, q, ← a, b)
+        start-disallowed e f z h g q l a b = simp (← e, f, ne-eqb _ _ z, lt-ltb _ _ h, ← g, q, lt-ltb _ _ l, ← a, b)
 
-pub ruleset start-ways = (start-missing, start-zero, start-unknown, start-mapless, start-of, start-disallowed)
+pub ruleset start-ways = (start-missing, start-zero, start-unknown, start-mapless, start-high, start-of, start-disallowed)
 
 module _ (map : ℕ) (r s t : Role) where
   pub path-one : map ≡ 0x09 → One r ≡ pathOf map r s t
@@ -77,16 +81,16 @@ pub assertion-of : (x : Start) (v : List ℕ) → ((x .kind ≡ 0 → ⊥) → 1
 unfolding axiomOf
 assertion-of x v f = go (x .kind) f
   where
-    go : (k : ℕ) → ((k ≡ 0 → ⊥) → 14 ≤ k) → assertion v ≡ getD (axiomKinds (x .map) v) k (assertion v)
+    go : (k : ℕ) → ((k ≡ 0 → ⊥) → 14 ≤ k) → assertion v ≡ getD (axiomKinds (x .map % 256) v) k (assertion v)
     go zero f = refl
-    go (suc k) f = sym (List·getD-eq-default (axiomKinds (x .map) v) (assertion v) (f (omega arith)))
+    go (suc k) f = sym (List·getD-eq-default (axiomKinds (x .map % 256) v) (assertion v) (f (omega arith)))
 
 module _ (h : Counts) (x : Start) (s : List ℕ) (at : ℕ) (fs : Fields) where
-  pub rest-unread : (n : ℕ) → asFields fs ≡ fields (x .map) (statementLimits h) noValues 9 s at → fs .end ≡ Stopped n → refusal n ≡ statementRest h x s at
+  pub rest-unread : (n : ℕ) → asFields fs ≡ fields (x .map) (statementLimits h) unmarked 9 s at → fs .end ≡ Stopped n → refusal n ≡ statementRest h x s at
   unfolding statementRest
   rest-unread n e f = simp (← e, f)
 
-  pub rest-read : (next : ℕ) (a : Axiom) → asFields fs ≡ fields (x .map) (statementLimits h) noValues 9 s at → fs .end ≡ On next → a ≡ axiomOf x (fs .values) → value a next ≡ statementRest h x s at
+  pub rest-read : (next : ℕ) (a : Statement) → asFields fs ≡ fields (x .map) (statementLimits h) unmarked 9 s at → fs .end ≡ On next → a ≡ statementOf x (fs .values) → value a next ≡ statementRest h x s at
   unfolding statementRest
   rest-read next a e f g = simp (← e, f, g)
 

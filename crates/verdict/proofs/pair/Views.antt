@@ -8,7 +8,7 @@ use native.Mathlib.Omega.{arith}
 use lib.Dec.{ltb, eqb}
 use borrow.Author.Tests.{lt-ltb, eq-eqb, eqb-true}
 use Rattle.book.specs.Role.{roleId, fieldOf}
-use Rattle.book.specs.Book.{Book}
+use Rattle.book.specs.Book.{Book, axioms}
 use Rattle.book.specs.Within.{Every, RoleWithin}
 use Rattle.book.specs.declared.header.Counts.{Counts}
 use Rattle.book.specs.declared.role.Role.{Role}
@@ -69,8 +69,8 @@ module _ {B C : Type 0} (q : C → Bool) (g : B → C) where
 
 -- ---- the functional fields are those of the functional roles
 
-pub functional-row : (B : Book) (fun : List ℕ) → Pairs fun (from (B .statements) functionalsBy) → (f : ℕ) → f < 512 → has fun 0 f ≡ some (functional B) (λ r. eqb (fieldOf r) f)
-functional-row B fun p f l = p 0 f l ∙ some-from (λ p. eqb (p .one) 0 && eqb (p .other) f) (λ r. two 0 (fieldOf r)) functionalBy (B .statements)
+pub functional-row : (B : Book) (fun : List ℕ) → Pairs fun (from (axioms B) functionalsBy) → (f : ℕ) → f < 512 → has fun 0 f ≡ some (functional B) (λ r. eqb (fieldOf r) f)
+functional-row B fun p f l = p 0 f l ∙ some-from (λ p. eqb (p .one) 0 && eqb (p .other) f) (λ r. two 0 (fieldOf r)) functionalBy (axioms B)
 
 -- ---- an edge among the facts of a table
 
@@ -95,7 +95,7 @@ module _ {z : Size} {t : List ℕ} (k : Table z t) where
 
 -- ---- the same pairs
 
-module _ (h : Counts) (B : Book) (t fun : List ℕ) (k : Table (sizeOf h) t) (counts : B .counts ≡ h) (p : Pairs fun (from (B .statements) functionalsBy))
+module _ (h : Counts) (B : Book) (t fun : List ℕ) (k : Table (sizeOf h) t) (counts : B .counts ≡ h) (p : Pairs fun (from (axioms B) functionalsBy))
     (roles : Every (RoleWithin h) (functional B)) (i j : ℕ) (li : i < h .individuals) (lj : j < h .individuals) where
   -- i and j are fillers of a: under field f of the table, and under the role r among its facts
   abbrev filled : ℕ → ℕ → Bool

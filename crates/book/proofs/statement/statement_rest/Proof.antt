@@ -25,8 +25,8 @@ enum-known-end c = search needs
 enum-known-end-2 : tie.Need-enum-known-end-2
 enum-known-end-2 c = search needs
 
-axiom-of-requires : tie.Need-axiom-of-requires
-axiom-of-requires c κs = search needs
+statement-of-requires : tie.Need-statement-of-requires
+statement-of-requires c κs = search needs
 
 returns : tie.Need-returns
 returns c = search rest-unread
@@ -45,6 +45,6 @@ statement-rest-spec =
     fields-at-requires
     enum-known-end
     enum-known-end-2
-    axiom-of-requires
+    statement-of-requires
     returns
     returns-2)

@@ -1,11 +1,9 @@
 -- `row_at` answers the row of statement i: the table is computed from the statements and compared. Assumes nothing.
 use native.Mathlib.Omega.{arith}
 use borrow.Author.Needs.{needs}
-use Rattle.book.specs.declared.statement.Axiom.the-variants.{TransitiveRole}
-use Rattle.book.specs.declared.role.Role.the-variants.{Named}
 use Rattle.book.specs.Role.{roleOf}
 use Rattle.book.specs.Statement.{axiomOf, pathOf}
-use Rattle.small.specs.Statements.{smallStatements}
+use Rattle.small.specs.Statements.{smallStatements, spare}
 use Rattle.small.specs.Laying.{rowOf}
 use Rattle.small.proofs.Statements.{statements-count, row-at}
 use Rattle.small.proofs.statement.row_at.Statement.{statement}
@@ -19,7 +17,7 @@ array-read-result c = search needs
 
 returns : tie.Need-returns
 unfolding smallStatements axiomOf pathOf roleOf rowOf
-returns c = row-at (TransitiveRole (Named 0)) smallStatements (c .args .i) (omega (arith, statements-count))
+returns c = row-at spare smallStatements (c .args .i) (omega (arith, statements-count))
 
 pub row-at-spec : {M : Type 1} → statement M
 row-at-spec = tie.close (tie.spec mul-result array-read-result returns)
