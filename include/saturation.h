@@ -1,4 +1,5 @@
-/* The conclusions of a book, told facts and rules run to the smallest sets; and the book itself, cleaned.
+/* The conclusions of a book, told facts and rules run to the smallest sets; the book itself, cleaned; and what
+ * a run of it will need.
  *
  * Link with libzamoluvel.a (`rt staticlib zamoluvel`). The functions keep nothing between calls, allocate
  * nothing and may be called from several threads at once. A thread that calls them needs ZAMOLUVEL_STACK bytes of
@@ -86,6 +87,27 @@ size_t zamoluvel_named_part(uint32_t end, uint32_t edge_count, uint32_t pair_cou
  *                          book is accepted, and its written form has more bytes than are lent
  */
 uint32_t zamoluvel_write(const uint8_t *book, size_t book_len, uint8_t *out, size_t out_len, size_t *written);
+
+/* What zamoluvel_figure answers, beside ZAMOLUVEL_REFUSED plus the number of the refusal, 4 to 10. */
+#define ZAMOLUVEL_FIGURE 0u
+
+/* What a book will need: how many facts, types and edges together, its conclusions can have at most, without a run. Take
+ * the book with all individuals made one; the figure is the individuals times the classes that its conclusions hold, plus
+ * the square of the individuals times the roles. A run with a budget of at least the figure is never spent.
+ *
+ *   book, book_len  the bytes of the book, any at all; they are read only
+ *   needed          receives the figure, at most 16,908,288; 0 where the book is refused. It must not be null, and not
+ *                   point into the book.
+ *
+ * A figure above 1,000,000 is no budget: a run refuses it by 1. Such a book may be spent with the largest budget, and may
+ * also use far less. The lists for a budget of the figure have 2 * figure and 3 * figure entries. A book without
+ * individuals gives 0. A call takes some 200 KB of stack, and a time like that of the book's check.
+ *
+ * Returns
+ *   ZAMOLUVEL_FIGURE       the figure is written
+ *   ZAMOLUVEL_REFUSED + n  refused by number, 4 to 10 the book, as for a run; 0 is written
+ */
+uint32_t zamoluvel_figure(const uint8_t *book, size_t book_len, uint32_t *needed);
 
 /* A book of the list of every small book: one class, one role, two individuals, the concept Atomic 0 and at most two
  * statements, none with a source. There are 1 + 61 + 3,721 of them, fewer statements first, then by their bytes.

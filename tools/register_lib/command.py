@@ -15,6 +15,7 @@ from .tokens import Fault
 
 ROOT = pathlib.Path(__file__).resolve().parent.parent.parent
 PROGRAM = ROOT / 'target' / 'bin' / 'saturate'
+PROGRAM_BUDGET = 4000  # of that program
 SUFFIX = r'\.(ofn|owl|ttl|nt|rdf|xml|owx|omn)$'  # of a register's file; its book has .book in place of it
 
 ABOUT = 'Books in a form that people read and write: OWL 2 functional-style syntax.'
@@ -59,7 +60,14 @@ them, fewer statements first, then by bytes. The proved library makes them; `{li
 '''
 CONCLUDED = SYNTAXES + f'''
 The program target/bin/saturate is run, which keeps at most 4,000 types and edges and lists 2,000 same pairs. With
---budget the proved library is run instead, with lists of the size that is needed; `{library.BUILD}` builds it.
+--budget the proved library is run instead, with lists of the size that is needed; `{library.BUILD}` builds it. So it is
+without --budget, where the library is built, for a register that may need more than 4,000 and at most 1,000,000, as
+`need` tells: with that figure as budget, which is never spent.
+'''
+NEEDED = SYNTAXES + f'''
+The figure is worked out without a run, by the proved library; `{library.BUILD}` builds that. A run with a budget of at
+least the figure is never spent. It counts every individual with each class that the register may conclude of anyone, and
+every two individuals linked by each role, so the conclusions may be far fewer.
 '''
 
 
@@ -169,14 +177,43 @@ def small(args):
     return DONE
 
 
+def need(args):
+    """What a register will need: the figure, the lists that it asks for, and the budget to give."""
+    data = packed(args.file, args.strict, None).data()
+    try:
+        figure = library.figure(data)[1]
+    except library.NotBuilt as missing:
+        raise Stop(NOT_RUN, str(missing)) from None
+    print(f'{args.file}: at most {counted(figure, "type")} and edges together')
+    if figure > library.MOST_BUDGET:
+        print(f'The largest budget, {library.MOST_BUDGET:,}, may be spent: tools/register conclude --budget {library.MOST_BUDGET} {args.file}')
+        return DONE
+    print(f'A budget of {figure:,} is never spent; it asks for a type list of {2 * figure:,} entries and an edge list of {3 * figure:,}.')
+    if figure <= PROGRAM_BUDGET:
+        print(f"The program's budget of {PROGRAM_BUDGET:,} is enough: tools/register conclude {args.file}")
+    else:
+        print(f'By the proved library: tools/register conclude --budget {figure} {args.file}')
+    return DONE
+
+
 def conclude(args):
     packer = packed(args.file, args.strict, MOST_BYTES if args.budget is None else None)
     data = packer.data()
     book = f.read(data)
-    run = run_program(args.program, data, book) if args.budget is None else run_library(data, book, args.budget)
-    status, text = conclusions.write(run, book, len(data), packer.names(), args.budget)
+    budget = args.budget if args.budget is not None or args.program else needed_budget(data)
+    run = run_program(args.program, data, book) if budget is None else run_library(data, book, budget)
+    status, text = conclusions.write(run, book, len(data), packer.names(), budget)
     print(text, end='')
     return status
+
+
+def needed_budget(data):
+    """The figure as budget, where it is more than the program's and a run may have it; else, or without the library, None."""
+    try:
+        figure = library.figure(data)[1]
+    except library.NotBuilt:
+        return None
+    return figure if PROGRAM_BUDGET < figure <= library.MOST_BUDGET else None
 
 
 def run_program(path, data, book):
@@ -235,6 +272,7 @@ def arguments():
     made = made.add_mutually_exclusive_group(required=True)
     made.add_argument('position', metavar='POSITION', type=position, nargs='?', help='which one, counted from 0')
     made.add_argument('--all', metavar='DIR', help='write each as DIR/POSITION.book')
+    command('need', need, 'tells how many types and edges the conclusions of FILE can have at most, and the budget to give', NEEDED)
     made = command('conclude', conclude, 'packs FILE, runs the book and prints what it concludes, told and derived apart',
                    CONCLUDED).add_mutually_exclusive_group()
     made.add_argument('--budget', metavar='N', type=budget, help='run the library, with a budget of N facts, up to 1000000')

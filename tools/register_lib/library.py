@@ -18,6 +18,7 @@ STACK = 16 << 20  # bytes for a call; the header asks for less
 MOST_BUDGET = 1000000
 FINISHED, CLASH, SPENT, REFUSED = 0, 1, 2, 100
 WRITTEN = 0
+FIGURE = 0
 MOST_SMALL = 37  # bytes of a small book
 EDGES, PAIRS = 0, 1
 
@@ -50,6 +51,13 @@ def write(book, out):
     return code, length.value
 
 
+def figure(book):
+    """What the bytes of a book will need: (code, figure)."""
+    needed = ctypes.c_uint32()
+    code = called('zamoluvel_figure', book, len(book), ctypes.byref(needed))
+    return code, needed.value
+
+
 def small_book(position):
     """The bytes of the small book at a position, or None past the last."""
     out = ctypes.create_string_buffer(MOST_SMALL)
@@ -76,6 +84,7 @@ def loaded():
         raise NotBuilt(f'the library cannot be loaded: {error}') from None
     size, number, numbers = ctypes.c_size_t, ctypes.c_uint32, ctypes.POINTER(ctypes.c_uint32)
     types = {
+        'zamoluvel_figure': (number, ctypes.c_char_p, size, numbers),
         'zamoluvel_saturate': (number, ctypes.c_char_p, size, ctypes.c_uint64, *[numbers, size] * 3, *[numbers] * 3),
         'zamoluvel_named_part': (size, *[number] * 4),
         'zamoluvel_small_book': (size, ctypes.c_uint64, ctypes.c_char_p, size),

@@ -1,3 +1,4 @@
 -- What the functions for callers in C return.
+pub mod Need
 pub mod Run
 pub mod Write
