@@ -26,7 +26,6 @@ allot-at t = and 5 allot-kinds.ps (is 5 allot-kinds.ps μ-allot t) allot.Pre
 abbrev allot-below : ℕ → In 5 allot-kinds.ps
 allot-below t = and 5 allot-kinds.ps (falls 5 allot-kinds.ps _<_ μ-allot t) allot.Pre
 
--- src/allot.rt:277:9
 allot-wanted-requires : (t : ℕ) → allot-lts.Need-wanted-requires (
   wanted-reads.Asked,
   wanted-reads.Learnt,
@@ -43,7 +42,6 @@ allot-wanted-requires : (t : ℕ) → allot-lts.Need-wanted-requires (
 ) (allot-at t) allot.Post
 allot-wanted-requires t c κs = open-sized (c .before .before .before .before .before .pre .1 .0)
 
--- src/allot.rt:288:13
 allot-add-allot : (t : ℕ) → allot-lts.Need-add-allot (
   wanted-reads.Asked,
   wanted-reads.Learnt,
@@ -60,7 +58,6 @@ allot-add-allot : (t : ℕ) → allot-lts.Need-add-allot (
 ) (allot-at t) allot.Post
 allot-add-allot t c = let w = c .before .before .before .before .wanted .ensures .last in omega arith
 
--- src/allot.rt:279:9
 allot-allot-requires : (t : ℕ) → allot-lts.Need-allot-requires (
   wanted-reads.Asked,
   wanted-reads.Learnt,
@@ -77,7 +74,6 @@ allot-allot-requires : (t : ℕ) → allot-lts.Need-allot-requires (
 ) (allot-at t) allot.Post
 allot-allot-requires t c κs = let m = c .before .before .before .before .before .before .before .before .before .before .pre .0 in let w = c .before .before .before .before .wanted .ensures .last in (omega arith, c .before .before .before .before .before .before .before .before .before .before .pre .1)
 
--- src/allot.rt:279:9
 allot-same-length : (t : ℕ) → allot-lts.Need-same-length (
   wanted-reads.Asked,
   wanted-reads.Learnt,
@@ -94,7 +90,6 @@ allot-same-length : (t : ℕ) → allot-lts.Need-same-length (
 ) (allot-at t) allot.Post
 allot-same-length t c = search needs
 
--- src/allot.rt:279:9
 allot-same-length-2 : (t : ℕ) → allot-lts.Need-same-length-2 (
   wanted-reads.Asked,
   wanted-reads.Learnt,
@@ -111,7 +106,6 @@ allot-same-length-2 : (t : ℕ) → allot-lts.Need-same-length-2 (
 ) (allot-at t) allot.Post
 allot-same-length-2 t c = search needs
 
--- src/allot.rt:279:9
 allot-same-length-3 : (t : ℕ) → allot-lts.Need-same-length-3 (
   wanted-reads.Asked,
   wanted-reads.Learnt,
@@ -128,7 +122,6 @@ allot-same-length-3 : (t : ℕ) → allot-lts.Need-same-length-3 (
 ) (allot-at t) allot.Post
 allot-same-length-3 t c = search needs
 
--- src/allot.rt:279:9
 allot-returns : (t : ℕ) → allot-lts.Need-returns (
   wanted-reads.Asked,
   wanted-reads.Learnt,
@@ -145,7 +138,6 @@ allot-returns : (t : ℕ) → allot-lts.Need-returns (
 ) (allot-at t) allot.Post
 allot-returns t c = search needs
 
--- src/allot.rt:292:9
 allot-small-requires : (t : ℕ) → allot-lts.Need-small-requires (
   wanted-reads.Asked,
   wanted-reads.Learnt,
@@ -162,7 +154,6 @@ allot-small-requires : (t : ℕ) → allot-lts.Need-small-requires (
 ) (allot-at t) allot.Post
 allot-small-requires t c κs = let p = c .before .before .before .before .before .before .before .before .before .before .before .pre .1 in let w = c .before .before .before .before .before .wanted .ensures in let e = c .before .before .before .if2 .taken in (p .0, (p .1 .0, (p .1 .1, (w .small e, w .tiny e))))
 
--- src/allot.rt:292:9
 allot-same-length-4 : (t : ℕ) → allot-lts.Need-same-length-4 (
   wanted-reads.Asked,
   wanted-reads.Learnt,
@@ -179,7 +170,6 @@ allot-same-length-4 : (t : ℕ) → allot-lts.Need-same-length-4 (
 ) (allot-at t) allot.Post
 allot-same-length-4 t c = search needs
 
--- src/allot.rt:292:9
 allot-same-length-5 : (t : ℕ) → allot-lts.Need-same-length-5 (
   wanted-reads.Asked,
   wanted-reads.Learnt,
@@ -196,7 +186,6 @@ allot-same-length-5 : (t : ℕ) → allot-lts.Need-same-length-5 (
 ) (allot-at t) allot.Post
 allot-same-length-5 t c = search needs
 
--- src/allot.rt:292:9
 allot-same-length-6 : (t : ℕ) → allot-lts.Need-same-length-6 (
   wanted-reads.Asked,
   wanted-reads.Learnt,
@@ -213,7 +202,6 @@ allot-same-length-6 : (t : ℕ) → allot-lts.Need-same-length-6 (
 ) (allot-at t) allot.Post
 allot-same-length-6 t c = search needs
 
--- src/allot.rt:292:9
 allot-returns-2 : (t : ℕ) → allot-lts.Need-returns-2 (
   wanted-reads.Asked,
   wanted-reads.Learnt,
@@ -230,7 +218,6 @@ allot-returns-2 : (t : ℕ) → allot-lts.Need-returns-2 (
 ) (allot-at t) allot.Post
 allot-returns-2 t c = search needs
 
--- src/allot.rt:295:9
 allot-rows-in-cache-requires : (t : ℕ) → allot-lts.Need-rows-in-cache-requires (
   wanted-reads.Asked,
   wanted-reads.Learnt,
@@ -247,7 +234,6 @@ allot-rows-in-cache-requires : (t : ℕ) → allot-lts.Need-rows-in-cache-requir
 ) (allot-at t) allot.Post
 allot-rows-in-cache-requires t c κs = let p = c .before .before .before .before .before .before .before .before .before .before .before .before .pre .1 in (p .0, (p .1 .0, (p .1 .1, c .before .before .before .before .before .before .wanted .ensures .cache (c .before .before .before .if3 .taken))))
 
--- src/allot.rt:295:9
 allot-same-length-7 : (t : ℕ) → allot-lts.Need-same-length-7 (
   wanted-reads.Asked,
   wanted-reads.Learnt,
@@ -264,7 +250,6 @@ allot-same-length-7 : (t : ℕ) → allot-lts.Need-same-length-7 (
 ) (allot-at t) allot.Post
 allot-same-length-7 t c = search needs
 
--- src/allot.rt:295:9
 allot-same-length-8 : (t : ℕ) → allot-lts.Need-same-length-8 (
   wanted-reads.Asked,
   wanted-reads.Learnt,
@@ -281,7 +266,6 @@ allot-same-length-8 : (t : ℕ) → allot-lts.Need-same-length-8 (
 ) (allot-at t) allot.Post
 allot-same-length-8 t c = search needs
 
--- src/allot.rt:295:9
 allot-same-length-9 : (t : ℕ) → allot-lts.Need-same-length-9 (
   wanted-reads.Asked,
   wanted-reads.Learnt,
@@ -298,7 +282,6 @@ allot-same-length-9 : (t : ℕ) → allot-lts.Need-same-length-9 (
 ) (allot-at t) allot.Post
 allot-same-length-9 t c = search needs
 
--- src/allot.rt:295:9
 allot-returns-3 : (t : ℕ) → allot-lts.Need-returns-3 (
   wanted-reads.Asked,
   wanted-reads.Learnt,
@@ -315,7 +298,6 @@ allot-returns-3 : (t : ℕ) → allot-lts.Need-returns-3 (
 ) (allot-at t) allot.Post
 allot-returns-3 t c = search needs
 
--- src/allot.rt:298:9
 allot-rows-of-some-requires : (t : ℕ) → allot-lts.Need-rows-of-some-requires (
   wanted-reads.Asked,
   wanted-reads.Learnt,
@@ -332,7 +314,6 @@ allot-rows-of-some-requires : (t : ℕ) → allot-lts.Need-rows-of-some-requires
 ) (allot-at t) allot.Post
 allot-rows-of-some-requires t c κs = let p = c .before .before .before .before .before .before .before .before .before .before .before .before .before .pre .1 in (p .0, (p .1 .0, (p .1 .1, c .before .before .before .before .before .before .before .wanted .ensures .some (c .before .before .before .if4 .taken))))
 
--- src/allot.rt:298:9
 allot-same-length-10 : (t : ℕ) → allot-lts.Need-same-length-10 (
   wanted-reads.Asked,
   wanted-reads.Learnt,
@@ -349,7 +330,6 @@ allot-same-length-10 : (t : ℕ) → allot-lts.Need-same-length-10 (
 ) (allot-at t) allot.Post
 allot-same-length-10 t c = search needs
 
--- src/allot.rt:298:9
 allot-same-length-11 : (t : ℕ) → allot-lts.Need-same-length-11 (
   wanted-reads.Asked,
   wanted-reads.Learnt,
@@ -366,7 +346,6 @@ allot-same-length-11 : (t : ℕ) → allot-lts.Need-same-length-11 (
 ) (allot-at t) allot.Post
 allot-same-length-11 t c = search needs
 
--- src/allot.rt:298:9
 allot-same-length-12 : (t : ℕ) → allot-lts.Need-same-length-12 (
   wanted-reads.Asked,
   wanted-reads.Learnt,
@@ -383,7 +362,6 @@ allot-same-length-12 : (t : ℕ) → allot-lts.Need-same-length-12 (
 ) (allot-at t) allot.Post
 allot-same-length-12 t c = search needs
 
--- src/allot.rt:298:9
 allot-returns-4 : (t : ℕ) → allot-lts.Need-returns-4 (
   wanted-reads.Asked,
   wanted-reads.Learnt,
@@ -400,7 +378,6 @@ allot-returns-4 : (t : ℕ) → allot-lts.Need-returns-4 (
 ) (allot-at t) allot.Post
 allot-returns-4 t c = search needs
 
--- src/allot.rt:300:5
 allot-rows-of-any-requires : (t : ℕ) → allot-lts.Need-rows-of-any-requires (
   wanted-reads.Asked,
   wanted-reads.Learnt,
@@ -417,7 +394,6 @@ allot-rows-of-any-requires : (t : ℕ) → allot-lts.Need-rows-of-any-requires (
 ) (allot-at t) allot.Post
 allot-rows-of-any-requires t c κs = let p = c .before .before .before .before .before .before .before .before .before .before .before .before .before .pre .1 in (p .0, (p .1 .0, (p .1 .1, most-rows _ (open-limits (p .0)))))
 
--- src/allot.rt:261:1
 allot-same-length-13 : (t : ℕ) → allot-lts.Need-same-length-13 (
   wanted-reads.Asked,
   wanted-reads.Learnt,
@@ -434,7 +410,6 @@ allot-same-length-13 : (t : ℕ) → allot-lts.Need-same-length-13 (
 ) (allot-at t) allot.Post
 allot-same-length-13 t c = search needs
 
--- src/allot.rt:261:1
 allot-same-length-14 : (t : ℕ) → allot-lts.Need-same-length-14 (
   wanted-reads.Asked,
   wanted-reads.Learnt,
@@ -451,7 +426,6 @@ allot-same-length-14 : (t : ℕ) → allot-lts.Need-same-length-14 (
 ) (allot-at t) allot.Post
 allot-same-length-14 t c = search needs
 
--- src/allot.rt:261:1
 allot-same-length-15 : (t : ℕ) → allot-lts.Need-same-length-15 (
   wanted-reads.Asked,
   wanted-reads.Learnt,
@@ -468,7 +442,6 @@ allot-same-length-15 : (t : ℕ) → allot-lts.Need-same-length-15 (
 ) (allot-at t) allot.Post
 allot-same-length-15 t c = search needs
 
--- src/allot.rt:261:1
 allot-returns-5 : (t : ℕ) → allot-lts.Need-returns-5 (
   wanted-reads.Asked,
   wanted-reads.Learnt,

@@ -5,23 +5,18 @@ use Rattle.saturation.proofs.allot.is_small.Reads as reads
 use Rattle.saturation.proofs.allot.is_small.Lts as lts
 use Rattle.rules.proofs.Tests.{false-true}
 
--- src/allot.rt:22:9
 returns : tie.Need-returns
 returns c = λ e. false-true e
 
--- src/allot.rt:25:9
 returns-2 : tie.Need-returns-2
 returns-2 c = λ e. false-true e
 
--- src/allot.rt:28:9
 returns-3 : tie.Need-returns-3
 returns-3 c = λ e. false-true e
 
--- src/allot.rt:31:9
 returns-4 : tie.Need-returns-4
 returns-4 c = λ e. false-true e
 
--- src/allot.rt:18:1
 returns-5 : tie.Need-returns-5
 returns-5 c = search needs
 

@@ -8,27 +8,21 @@ use native.Mathlib.Omega.{arith}
 use Rattle.tables.proofs.Blank.{blank}
 use Rattle.saturation.proofs.allot.Words.{table-within}
 
--- src/allot.rt:183:69
 slice-aggregate-large : tie.Need-slice-aggregate-large
 slice-aggregate-large c = search needs
 
--- src/allot.rt:183:5
 large-requires : tie.Need-large-requires
 large-requires c κs = let p = c .before .before .before .before .before .before .before .before .before .pre in (p .0, (p .1 .0, (p .1 .1 .0, (blank 131072, table-within (c .before .before .before .before .before .before .before .before .before .args .counts) 16384 131072 (p .1 .1 .1) (omega arith)))))
 
--- src/allot.rt:166:1
 same-length : tie.Need-same-length
 same-length c = search needs
 
--- src/allot.rt:166:1
 same-length-2 : tie.Need-same-length-2
 same-length-2 c = search needs
 
--- src/allot.rt:166:1
 same-length-3 : tie.Need-same-length-3
 same-length-3 c = search needs
 
--- src/allot.rt:166:1
 returns : tie.Need-returns
 returns c = search needs
 

@@ -9,35 +9,27 @@ use Rattle.tables.proofs.size.table_rows.Reads as table-rows-reads
 use native.Mathlib.Omega.{arith}
 use Rattle.saturation.proofs.allot.Words.{small-enough, cache-enough, some-enough, any-enough}
 
--- src/allot.rt:243:27
 size-of-requires : tie.Need-size-of-requires
 size-of-requires c κs = search needs
 
--- src/allot.rt:243:9
 table-rows-requires : tie.Need-table-rows-requires
 table-rows-requires c κs = rw (c .size-of .ensures) (c .before .pre)
 
--- src/allot.rt:245:12
 is-small-requires : tie.Need-is-small-requires
 is-small-requires c κs = search needs
 
--- src/allot.rt:246:13
 returns : tie.Need-returns
 returns c = let e = rw (c .before .before .before .before .size-of .ensures) at (c .before .before .before .table-rows .ensures) in small-enough (c .before .is-small .ensures (c .if2 .taken)) (omega arith)
 
--- src/allot.rt:248:9
 returns-2 : tie.Need-returns-2
 returns-2 c = let e = rw (c .before .before .before .before .size-of .ensures) at (c .before .before .before .table-rows .ensures) in cache-enough (c .before .before .before .before .before .args .counts) (omega arith)
 
--- src/allot.rt:251:9
 returns-3 : tie.Need-returns-3
 returns-3 c = let e = rw (c .before .before .before .size-of .ensures) at (c .before .before .table-rows .ensures) in cache-enough (c .before .before .before .before .args .counts) (omega arith)
 
--- src/allot.rt:254:9
 returns-4 : tie.Need-returns-4
 returns-4 c = let e = rw (c .before .before .before .before .size-of .ensures) at (c .before .before .before .table-rows .ensures) in some-enough (c .before .before .before .before .before .args .counts) (omega arith)
 
--- src/allot.rt:239:1
 returns-5 : tie.Need-returns-5
 returns-5 c = any-enough (c .before .before .before .before .before .args .counts)
 

@@ -6,23 +6,18 @@ use Rattle.saturation.proofs.part.edge_entries.Lts as lts
 use Rattle.saturation.proofs.part.Fronts.{no-edges}
 use mathlib.Core.Path.{refl}
 
--- src/part.rt:20:26
 enum-known-end : tie.Need-enum-known-end
 enum-known-end c = search needs
 
--- src/part.rt:20:40
 cast-result : tie.Need-cast-result
 cast-result c = search needs
 
--- src/part.rt:20:35
 mul-result : tie.Need-mul-result
 mul-result c = search needs
 
--- src/part.rt:16:1
 returns : tie.Need-returns
 returns c = rw (c .before .end .given .1) refl
 
--- src/part.rt:16:1
 returns-2 : tie.Need-returns-2
 returns-2 c = no-edges (c .before .args .end) (c .match .keys2)
 

@@ -10,35 +10,27 @@ use Prim.Native.Nat.{ℕ}
 use mathlib.Core.Path.{ap, _∙_}
 use lib.ListN.{take}
 
--- src/part.rt:49:38
 enum-told : tie.Need-enum-told
 enum-told c = search needs
 
--- src/part.rt:49:38
 edge-entries-requires : tie.Need-edge-entries-requires
 edge-entries-requires c κs = search needs
 
--- src/part.rt:49:25
 front-requires : tie.Need-front-requires
 front-requires c κs = search needs
 
--- src/part.rt:50:38
 enum-told-2 : tie.Need-enum-told-2
 enum-told-2 c = search needs
 
--- src/part.rt:50:38
 pair-entries-requires : tie.Need-pair-entries-requires
 pair-entries-requires c κs = search needs
 
--- src/part.rt:50:25
 front-requires-2 : tie.Need-front-requires-2
 front-requires-2 c κs = search needs
 
--- src/part.rt:45:1
 returns : tie.Need-returns
 returns c = rw (c .before .before .enum-told .given .1) (c .front .ensures ∙ ap (λ (n : ℕ). take n (c .before .before .before .before .before .before .args .edges .now)) (c .before .edge-entries .ensures))
 
--- src/part.rt:45:1
 returns-2 : tie.Need-returns-2
 returns-2 c = rw (c .before .before .enum-told2 .given .1) (c .front2 .ensures ∙ ap (λ (n : ℕ). take n (c .before .before .before .before .before .before .args .pairs .now)) (c .before .pair-entries .ensures))
 

@@ -14,38 +14,30 @@ Inv-loop start size count end₀ k₀ end k = (k ≤ count) × (end ≡ start + 
 abbrev μ-loop : tie.MeasureT-loop
 μ-loop start size count end₀ k₀ end k = count - k
 
--- src/lay.rt:76:5
 loop-holds : tie.Need-loop-holds Inv-loop μ-loop
 loop-holds c = (omega arith, omega (arith, total-none (c .args .size .now)))
 
--- src/lay.rt:77:21
 mul-end : tie.Need-mul-end Inv-loop μ-loop
 mul-end c = omega arith
 
--- src/lay.rt:77:21
 shared-slice-read-end : tie.Need-shared-slice-read-end Inv-loop μ-loop
 shared-slice-read-end c = omega arith
 
--- src/lay.rt:77:15
 add-end : tie.Need-add-end Inv-loop μ-loop
 add-end c =
     let a = c .before .before .before .args in
     let l = c .before .before .loop in
     omega (arith, records-room (a .size .now) (a .start) (a .count) (l .k) (a .start + total (a .size .now) (a .count)) (c .before .loop-test .taken) (omega arith))
 
--- src/lay.rt:78:13
 add-k : tie.Need-add-k Inv-loop μ-loop
 add-k c = omega arith
 
--- src/lay.rt:76:5
 loop-less : tie.Need-loop-less Inv-loop μ-loop
 loop-less c = omega arith
 
--- src/lay.rt:76:5
 loop-again : tie.Need-loop-again Inv-loop μ-loop
 loop-again c = (omega arith, omega (arith, total-more (c .before .before .before .args .size .now) (c .before .before .loop .k)))
 
--- src/lay.rt:70:1
 returns : tie.Need-returns Inv-loop μ-loop
 returns c = let e : c .before .loop .k ≡ c .before .before .args .count = omega arith in rw e at (c .before .loop .inv .1)
 

@@ -7,31 +7,24 @@ use Rattle.writer.proofs.lay.put.Tie as tie
 use Rattle.writer.proofs.lay.put.Reads as reads
 use Rattle.writer.proofs.lay.put.Lts as lts
 
--- src/lay.rt:29:15
 cast-out : tie.Need-cast-out
 cast-out c = search needs
 
--- src/lay.rt:29:5
 slice-write-out : tie.Need-slice-write-out
 slice-write-out c = search needs
 
--- src/lay.rt:30:19
 cast-out-2 : tie.Need-cast-out-2
 cast-out-2 c = search needs
 
--- src/lay.rt:30:9
 add-out : tie.Need-add-out
 add-out c = search needs
 
--- src/lay.rt:30:5
 slice-write-out-2 : tie.Need-slice-write-out-2
 slice-write-out-2 c = simp length-set (omega arith)
 
--- src/lay.rt:25:1
 same-length : tie.Need-same-length
 same-length c = search needs
 
--- src/lay.rt:25:1
 returns : tie.Need-returns
 returns c = over-two _ _ _ (c .pre .0)
 

@@ -8,31 +8,24 @@ use Rattle.writer.proofs.record.digit.Reads as reads
 use Rattle.writer.proofs.record.digit.Lts as lts
 use Rattle.writer.proofs.record.half_of.Reads as half-of-reads
 
--- src/record.rt:23:9
 returns : tie.Need-returns
 returns c = (digit-past _ _ _ _ (c .if1 .taken), omega arith)
 
--- src/record.rt:25:27
 sub-half-of : tie.Need-sub-half-of
 sub-half-of c = search needs
 
--- src/record.rt:25:27
 sub-half-of-2 : tie.Need-sub-half-of-2
 sub-half-of-2 c = search needs
 
--- src/record.rt:25:21
 add-half-of : tie.Need-add-half-of
 add-half-of c = search needs
 
--- src/record.rt:25:16
 shared-slice-read-half-of : tie.Need-shared-slice-read-half-of
 shared-slice-read-half-of c = search needs
 
--- src/record.rt:25:5
 half-of-requires : tie.Need-half-of-requires
 half-of-requires c κs = search needs
 
--- src/record.rt:18:1
 returns-2 : tie.Need-returns-2
 returns-2 c = (c .half-of .ensures .0 ∙ digit-there _ _ _ _ (omega arith), c .half-of .ensures .1)
 

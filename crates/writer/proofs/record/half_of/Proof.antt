@@ -5,11 +5,9 @@ use Rattle.writer.proofs.record.half_of.Tie as tie
 use Rattle.writer.proofs.record.half_of.Reads as reads
 use Rattle.writer.proofs.record.half_of.Lts as lts
 
--- src/record.rt:12:9
 returns : tie.Need-returns
 returns c = (half-low _ _ (c .if1 .taken), omega arith)
 
--- src/record.rt:8:1
 returns-2 : tie.Need-returns-2
 returns-2 c = (half-high _ _ (c .if1 .left), omega arith)
 

@@ -13,23 +13,18 @@ use Rattle.writer.proofs.tree.keep.Lts as lts
 use Rattle.writer.proofs.tree.enter.Reads as enter-reads
 use Rattle.writer.proofs.tree.search.Reads as search-reads
 
--- src/tree.rt:85:9
 slice-write-place : tie.Need-slice-write-place
 slice-write-place c = search needs
 
--- src/tree.rt:86:9
 slice-write-size : tie.Need-slice-write-size
 slice-write-size c = search needs
 
--- src/tree.rt:87:9
 same-length : tie.Need-same-length
 same-length c = search needs
 
--- src/tree.rt:87:9
 same-length-2 : tie.Need-same-length-2
 same-length-2 c = search needs
 
--- src/tree.rt:87:9
 returns : tie.Need-returns
 returns c =
     let a = c .before .before .before .before .before .args in
@@ -42,58 +37,45 @@ returns c =
         subst (λ (k : ℕ). Tree s (k + 1) child (set place k at) (set size k n) × Kept s count place size at n (k + 1) (set place k at) (set size k n)) z
         (tree-first s count child place size t at n fits r₁ r₂ r₃ z, kept-new s count place size at n r₂ r₃ (λ k l m. omega arith))
 
--- src/tree.rt:89:9
 search-requires : tie.Need-search-requires
 search-requires c κs = search needs
 
--- src/tree.rt:90:21
 enum-known-found : tie.Need-enum-known-found
 enum-known-found c = search needs
 
--- src/tree.rt:91:9
 enum-told : tie.Need-enum-told
 enum-told c = search needs
 
--- src/tree.rt:91:9
 same-length-3 : tie.Need-same-length-3
 same-length-3 c = search needs
 
--- src/tree.rt:91:9
 same-length-4 : tie.Need-same-length-4
 same-length-4 c = search needs
 
--- src/tree.rt:91:9
 same-length-5 : tie.Need-same-length-5
 same-length-5 c = search needs
 
--- src/tree.rt:91:9
 returns-2 : tie.Need-returns-2
 returns-2 c = (c .before .before .before .before .before .before .before .before .before .before .before .pre .0, kept-old _ _ _ _ _ _ (c .before .before .search .ensures .already (c .enum-told .given .1)))
 
--- src/tree.rt:93:5
 enter-requires : tie.Need-enter-requires
 enter-requires c κs =
     let p = c .before .before .before .before .before .before .before .before .before .before .before .before .before .before .before .pre in
     let q = c .before .before .before .before .before .before .search .ensures .belongs _ (c .before .before .before .before .found .given .1) in
     (slot-room q (omega (arith, p .1 .0)), p .1 .1, p .1 .2, p .1 .3)
 
--- src/tree.rt:94:5
 add-result : tie.Need-add-result
 add-result c = search needs
 
--- src/tree.rt:70:1
 same-length-6 : tie.Need-same-length-6
 same-length-6 c = search needs
 
--- src/tree.rt:70:1
 same-length-7 : tie.Need-same-length-7
 same-length-7 c = search needs
 
--- src/tree.rt:70:1
 same-length-8 : tie.Need-same-length-8
 same-length-8 c = search needs
 
--- src/tree.rt:70:1
 returns-3 : tie.Need-returns-3
 returns-3 c =
     let a = c .before .before .before .before .before .before .before .before .before .before .before .before .before .before .before .before .before .before .before .before .before .before .args in

@@ -16,59 +16,45 @@ Inv-loop book child place size count at n i₀ d₀ i d = Walk book count child 
 abbrev μ-loop : tie.MeasureT-loop
 μ-loop book child place size count at n i₀ d₀ i d = count - i
 
--- src/tree.rt:37:5
 loop-holds : tie.Need-loop-holds Inv-loop μ-loop
 loop-holds c = let p = c .before .before .before .before .pre in walk-begin _ _ _ _ _ (p .0) _ _ (p .1 .0)
 
--- src/tree.rt:38:24
 mul-alike : tie.Need-mul-alike Inv-loop μ-loop
 mul-alike c = omega arith
 
--- src/tree.rt:38:24
 shared-slice-read-alike : tie.Need-shared-slice-read-alike Inv-loop μ-loop
 shared-slice-read-alike c = omega arith
 
--- src/tree.rt:38:34
 mul-alike-2 : tie.Need-mul-alike-2 Inv-loop μ-loop
 mul-alike-2 c = omega arith
 
--- src/tree.rt:38:34
 shared-slice-read-alike-2 : tie.Need-shared-slice-read-alike-2 Inv-loop μ-loop
 shared-slice-read-alike-2 c = omega arith
 
--- src/tree.rt:38:12
 alike-requires : tie.Need-alike-requires Inv-loop μ-loop
 alike-requires c κs = let p = c .before .before .before .before .before .before .before .pre in (p .0 .inside (c .before .before .loop .i) (c .before .before .loop .inv .low), p .1 .1)
 
--- src/tree.rt:39:13
 returns : tie.Need-returns Inv-loop μ-loop
 returns c = search-already _ _ _ _ _ (c .before .before .before .before .before .before .before .before .before .pre .0) _ _ (c .before .before .before .before .loop .i) (c .before .before .before .before .loop .inv .low) (c .before .alike .ensures .yes (c .if1 .taken))
 
--- src/tree.rt:41:20
 mul-slot : tie.Need-mul-slot Inv-loop μ-loop
 mul-slot c = omega arith
 
--- src/tree.rt:41:29
 digit-requires : tie.Need-digit-requires Inv-loop μ-loop
 digit-requires c κs = c .before .before .before .before .before .before .before .before .before .pre .1 .1
 
--- src/tree.rt:41:20
 add-slot : tie.Need-add-slot Inv-loop μ-loop
 add-slot c = omega arith
 
--- src/tree.rt:42:25
 mul-wide : tie.Need-mul-wide Inv-loop μ-loop
 mul-wide c = omega arith
 
--- src/tree.rt:42:25
 shared-slice-read-wide : tie.Need-shared-slice-read-wide Inv-loop μ-loop
 shared-slice-read-wide c = omega arith
 
--- src/tree.rt:42:13
 wide-requires : tie.Need-wide-requires Inv-loop μ-loop
 wide-requires c κs = tt
 
--- src/tree.rt:44:13
 returns-2 : tie.Need-returns-2 Inv-loop μ-loop
 returns-2 c =
     let p = c .before .before .before .before .before .before .before .before .before .before .before .before .before .pre in
@@ -77,11 +63,9 @@ returns-2 c =
     let unlike = c .before .before .before .before .before .alike .ensures .no (c .before .before .before .before .if1 .left) in
     search-free _ _ _ _ _ (p .0) _ _ (l .i) (l .d) (x .result) (l .inv) (λ m. unlike (m .0) (m .1)) (x .ensures .0) (x .ensures .1) (sym (c .before .wide .ensures) ∙ c .if2 .taken)
 
--- src/tree.rt:47:13
 add-d : tie.Need-add-d Inv-loop μ-loop
 add-d c = omega arith
 
--- src/tree.rt:37:5
 loop-less : tie.Need-loop-less Inv-loop μ-loop
 loop-less c =
     let p = c .before .before .before .before .before .before .before .before .before .before .before .before .before .pre in
@@ -90,7 +74,6 @@ loop-less c =
     let unlike = c .before .before .before .before .before .alike .ensures .no (c .before .before .before .before .if1 .left) in
     walk-less _ _ _ _ _ (p .0) _ _ (l .i) (l .d) (x .result) (l .inv) (λ m. unlike (m .0) (m .1)) (x .ensures .0) (x .ensures .1) (c .before .wide .result) (c .before .wide .ensures) (c .if2 .left)
 
--- src/tree.rt:37:5
 loop-again : tie.Need-loop-again Inv-loop μ-loop
 loop-again c =
     let p = c .before .before .before .before .before .before .before .before .before .before .before .before .before .pre in

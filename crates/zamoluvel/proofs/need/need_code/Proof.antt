@@ -5,27 +5,21 @@ use Rattle.zamoluvel.proofs.need.need_code.Tie as tie
 use Rattle.zamoluvel.proofs.need.need_code.Reads as reads
 use Rattle.zamoluvel.proofs.need.need_code.Lts as lts
 
--- src/need.rt:12:30
 enum-told : tie.Need-enum-told
 enum-told c = search needs
 
--- src/need.rt:13:25
 enum-known-answer : tie.Need-enum-known-answer
 enum-known-answer c = search needs
 
--- src/need.rt:13:38
 cast-result : tie.Need-cast-result
 cast-result c = search needs
 
--- src/need.rt:13:31
 add-result : tie.Need-add-result
 add-result c = search needs
 
--- src/need.rt:8:1
 returns : tie.Need-returns
 returns c = search needs
 
--- src/need.rt:8:1
 returns-2 : tie.Need-returns-2
 returns-2 c = rw (c .before .answer .given .1) refl
 

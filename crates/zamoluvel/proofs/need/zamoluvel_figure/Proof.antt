@@ -9,19 +9,15 @@ use Rattle.figure.proofs.need.figure.Reads as figure-reads
 use Rattle.zamoluvel.proofs.need.figure_in.Reads as figure-in-reads
 use Rattle.zamoluvel.proofs.need.need_code.Reads as need-code-reads
 
--- src/need.rt:32:9
 figure-requires : tie.Need-figure-requires
 figure-requires c κs = search needs
 
--- src/need.rt:33:15
 figure-in-requires : tie.Need-figure-in-requires
 figure-in-requires c κs = search needs
 
--- src/need.rt:34:5
 need-code-requires : tie.Need-need-code-requires
 need-code-requires c κs = search needs
 
--- src/need.rt:27:1
 returns : tie.Need-returns
 returns c = let e = c .before .before .figure .ensures in (c .need-code .ensures ∙ ap needCode e, c .before .figure-in .ensures ∙ ap figureIn e)
 
