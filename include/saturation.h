@@ -1,5 +1,5 @@
-/* The conclusions of a book, told facts and rules run to the smallest sets; the book itself, cleaned; and what
- * a run of it will need.
+/* The conclusions of a book, told facts and rules run to the smallest sets; the book itself, cleaned; what a run of it
+ * will need; and rows of derivations, checked.
  *
  * Link with libzamoluvel.a (`rt staticlib zamoluvel`). The functions keep nothing between calls, allocate
  * nothing and may be called from several threads at once. A thread that calls them needs ZAMOLUVEL_STACK bytes of
@@ -108,6 +108,36 @@ uint32_t zamoluvel_write(const uint8_t *book, size_t book_len, uint8_t *out, siz
  *   ZAMOLUVEL_REFUSED + n  refused by number, 4 to 10 the book, as for a run; 0 is written
  */
 uint32_t zamoluvel_figure(const uint8_t *book, size_t book_len, uint32_t *needed);
+
+/* What zamoluvel_check_rows answers, beside ZAMOLUVEL_REFUSED plus the number of the refusal, 4 to 10. */
+#define ZAMOLUVEL_JUDGED 0u
+
+/* Where a row has no number. */
+#define ZAMOLUVEL_NONE 4294967295u
+
+/* Checks the rows of a derivation, from anyone: how many of them stand before the first that is not accepted.
+ *
+ *   book, book_len  the bytes of the book, any at all; they are read only
+ *   rows, rows_len  the rows, nine entries each, any numbers at all; they are read only
+ *   standing        receives how many rows stand; 0 where the book is refused. It must not be null.
+ *
+ * A row is: the rule, 1 to 8; the statement, counted from 0; three earlier rows, counted from 0; the kind of fact (0 type,
+ * 1 edge, 2 clash); and the fact's three numbers (a type: individual, class; an edge: role, first, second; a clash: none).
+ * Each of them is ZAMOLUVEL_NONE where there is none. A row is accepted exactly where it is laid out so and its fact
+ * follows by one use of the rule from the statement and the facts of the rows that it names, in any order, individuals
+ * matched by number; the told-same classes, and for a clash all statements, count as known. Rule 6 names no statement, rule
+ * 8 one of the book's or none. An incomplete last row is not accepted. Each row that stands has its fact in the smallest
+ * sets of the book, and a clash row that stands means that the book clashes.
+ *
+ * The book, the rows and the count must not overlap; of no entries the pointer may be any that is not null. A call takes
+ * some 4 MB of stack.
+ *
+ * Returns
+ *   ZAMOLUVEL_JUDGED       so many rows stand
+ *   ZAMOLUVEL_REFUSED + n  the book is refused by number, 4 to 10, as for a run
+ */
+uint32_t zamoluvel_check_rows(const uint8_t *book, size_t book_len, const uint32_t *rows, size_t rows_len,
+                              size_t *standing);
 
 /* A book of the list of every small book: one class, one role, two individuals, the concept Atomic 0 and at most two
  * statements, none with a source. There are 1 + 61 + 3,721 of them, fewer statements first, then by their bytes.

@@ -19,6 +19,7 @@ MOST_BUDGET = 1000000
 FINISHED, CLASH, SPENT, REFUSED = 0, 1, 2, 100
 WRITTEN = 0
 FIGURE = 0
+JUDGED = 0
 MOST_SMALL = 37  # bytes of a small book
 EDGES, PAIRS = 0, 1
 
@@ -58,6 +59,13 @@ def figure(book):
     return code, needed.value
 
 
+def check_rows(book, rows):
+    """The checker on the bytes of a book and a list of numbers: ('standing', how many rows) or ('refused', number)."""
+    standing = ctypes.c_size_t()
+    code = called('zamoluvel_check_rows', book, len(book), (ctypes.c_uint32 * len(rows))(*rows), len(rows), ctypes.byref(standing))
+    return ('standing', standing.value) if code == JUDGED else ('refused', code - REFUSED)
+
+
 def small_book(position):
     """The bytes of the small book at a position, or None past the last."""
     out = ctypes.create_string_buffer(MOST_SMALL)
@@ -88,6 +96,7 @@ def loaded():
         'zamoluvel_saturate': (number, ctypes.c_char_p, size, ctypes.c_uint64, *[numbers, size] * 3, *[numbers] * 3),
         'zamoluvel_named_part': (size, *[number] * 4),
         'zamoluvel_small_book': (size, ctypes.c_uint64, ctypes.c_char_p, size),
+        'zamoluvel_check_rows': (number, ctypes.c_char_p, size, numbers, size, ctypes.POINTER(size)),
         'zamoluvel_write': (number, ctypes.c_char_p, size, ctypes.c_char_p, size, ctypes.POINTER(size)),
     }
     for name, (result, *args) in types.items():

@@ -2,3 +2,4 @@
 pub mod Need
 pub mod Run
 pub mod Write
+pub mod Rows

@@ -1,0 +1,17 @@
+pub mod Mono
+pub mod Sound
+pub mod Stand
+pub mod Examples
+pub mod Uses
+pub mod Fitting
+pub mod Judging
+pub mod Clashing
+pub mod Slots
+pub mod Claims
+pub mod Orders
+pub mod Checking
+pub mod Leaves
+pub mod Pairing
+pub mod Entering
+pub mod PairsOf
+pub mod Preparing

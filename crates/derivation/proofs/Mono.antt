@@ -1,0 +1,68 @@
+-- More facts leave a clash a clash; two uses of rule 6 change both ends; and a rule 7 for different fillers asks no more than one for any two.
+use Prim.Native.Nat.{ℕ}
+use mathlib.Core.Path.{_≡_}
+use mathlib.Core.Bool.{Bool, true, not, _&&_, _||_}
+use mathlib.Core.List.{List, [], _∷_}
+use mathlib.Core.Logic.{⊎-elim}
+use lib.Dec.{eqb}
+use Rattle.book.specs.Book.{Book}
+use Rattle.book.specs.declared.role.Role.{Role}
+use Rattle.book.specs.declared.role.Role.the-variants.{Named, Inverse}
+use Rattle.rules.specs.Fact.{type, Two}
+use Rattle.rules.specs.Rule.{Set, Obeys, any, some}
+use Rattle.rules.specs.ToldSame.{same}
+use Rattle.rules.specs.Meaning.{sharing, merge}
+use Rattle.rules.specs.Same.{functional}
+use Rattle.rules.specs.Clash.{disjoint, marks, marked, bothMarked, typeClash, markerClash, clashes}
+use Rattle.rules.specs.Applied.{In}
+use Rattle.rules.proofs.Tests.{or-cases, or-left, or-right, and-both, and-intro, any-some, some-any}
+use Rattle.rules.proofs.Least.{given-obeys, obeys-given}
+use Rattle.derivation.specs.Accept.{sharingBoth, mergeOther}
+
+-- a implies b, as tests
+abbrev pub Up : Bool → Bool → Type 0
+Up a b = a ≡ true → b ≡ true
+
+and-up : (a b c d : Bool) → Up a c → Up b d → Up (a && b) (c && d)
+and-up a b c d f g e = let h = and-both a b e in and-intro c d (f (h .0)) (g (h .1))
+
+or-up : (a b c d : Bool) → Up a c → Up b d → Up (a || b) (c || d)
+or-up a b c d f g e = ⊎-elim (λ h. or-left c d (f h)) (λ h. or-right c d (g h)) (or-cases a b e)
+
+any-up : (n : ℕ) (f g : ℕ → Bool) → ((k : ℕ) → Up (f k) (g k)) → Up (any n f) (any n g)
+any-up n f g h e = let a = any-some n f e in some-any n g (a .0) (a .1) (h (a .0) (a .2))
+
+some-up : {A : Type 0} (l : List A) (f g : A → Bool) → ((x : A) → Up (f x) (g x)) → Up (some l f) (some l g)
+some-up [] f g h = λ e. e
+some-up (x ∷ l) f g h = or-up (f x) (some l f) (g x) (some l g) (h x) (some-up l f g h)
+
+module _ (B : Book) (P S : Set) (within : In P S) where
+  marked-up : (x r c : ℕ) → Up (marked B P x r c) (marked B S x r c)
+  unfolding marked
+  marked-up x r c = some-up (marks B) _ _ λ m. and-up _ _ _ _ (within (type x (m .left))) (λ e. e)
+
+  typeClash-up : (x : ℕ) → Up (typeClash B P x) (typeClash B S x)
+  unfolding typeClash
+  typeClash-up x = some-up (disjoint B) _ _ λ p. and-up _ _ _ _ (within (type x (p .one))) (within (type x (p .other)))
+
+  bothMarked-up : (x : ℕ) (p : Two) (r : Role) → Up (bothMarked B P x p r) (bothMarked B S x p r)
+  bothMarked-up x p (Named r) = and-up _ _ _ _ (marked-up x r (p .one)) (marked-up x r (p .other))
+  bothMarked-up x p (Inverse r) = λ e. e
+
+  markerClash-up : (x : ℕ) → Up (markerClash B P x) (markerClash B S x)
+  unfolding markerClash
+  markerClash-up x = some-up (disjoint B) _ _ λ p. and-up (not (eqb (p .one) (p .other))) _ _ _ (λ e. e) (some-up (functional B) _ _ (bothMarked-up x p))
+
+  pub clashes-up : clashes B P ≡ true → clashes B S ≡ true
+  unfolding clashes
+  clashes-up = any-up (B .counts .individuals) _ _ λ x. or-up _ _ _ _ (typeClash-up x) (markerClash-up x)
+
+pub sharing-both : (B : Book) (S : Set) → Obeys (sharing B) S → Obeys (sharingBoth B) S
+sharing-both B S o = (
+  λ i k j l. given-obeys S (same B i j) _ (λ e. obeys-given S (same B i j) _ (o i k j l) e .0),
+  λ i k j l. given-obeys S (same B i j) _ (λ e a m b n. given-obeys S (same B a b) _ (λ g r q h.
+      obeys-given S (same B a b) _ (o a m b n) g .1 r q j l .1 (obeys-given S (same B i j) _ (o i k j l) e .1 r q a m .0 h))),
+)
+
+pub merge-other : (S : Set) (n k : ℕ) (r : Role) → Obeys (merge n k r) S → Obeys (mergeOther n k r) S
+merge-other S n k r o = λ a i b j e c l f. given-obeys S (not (eqb b c)) _ (λ q. o a i b j e c l f)

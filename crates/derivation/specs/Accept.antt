@@ -1,0 +1,128 @@
+-- When a row is accepted, and how many stand.
+use Prim.Native.Nat.{ℕ, zero, suc, _/_}
+use mathlib.Core.Bool.{Bool, false, not, _&&_, _||_}
+use mathlib.Core.List.{List, [], _∷_}
+use lib.ListN.{length}
+use lib.Dec.{eqb, ltb}
+use Rattle.book.specs.Read.{pick}
+use Rattle.book.specs.Role.{flipped}
+use Rattle.book.specs.Book.{Book, axioms, decode}
+use Rattle.book.specs.declared.role.Role.{Role}
+use Rattle.book.specs.declared.role.Role.the-variants.{Named}
+use Rattle.book.specs.declared.statement.Axiom.{Axiom}
+use Rattle.book.specs.declared.statement.Axiom.the-variants.{SubClassOf, EquivalentClasses, DisjointClasses, InverseObjectProperties, SubObjectPropertyOf, TransitiveRole, SymmetricRole, FunctionalRole, InverseFunctionalRole, ObjectPropertyDomain, ObjectPropertyRange, SameIndividual, ClassAssertion, ObjectPropertyAssertion}
+use Rattle.rules.specs.Fact.{edge, type}
+use Rattle.rules.specs.Rule.{Set, Rule, keep, when, each, both, given, some, yields}
+use Rattle.rules.specs.ToldSame.{same}
+use Rattle.rules.specs.Meaning.{ruleOf}
+use Rattle.rules.specs.Clash.{clashes}
+use Rattle.rules.specs.Ends.{onDecoded}
+use Rattle.derivation.specs.declared.row.Row.{Row}
+use Rattle.derivation.specs.Rows.{none, rowAt, Claim, fact, clash, nothing, claim, named, earlier}
+
+-- what the statements of a book say, in order
+abbrev pub statements : Book → List Axiom
+statements B = axioms B
+
+-- the rule of 01 by which a statement acts; disjoint and told-same statements act through rules 8 and 6 alone
+abbrev pub ruleNumber : Axiom → ℕ
+ruleNumber (SubClassOf c d) = 2
+ruleNumber (EquivalentClasses c d) = 2
+ruleNumber (DisjointClasses c d) = 8
+ruleNumber (InverseObjectProperties r s) = 3
+ruleNumber (SubObjectPropertyOf p t) = 4
+ruleNumber (TransitiveRole r) = 4
+ruleNumber (SymmetricRole r) = 3
+ruleNumber (FunctionalRole r) = 7
+ruleNumber (InverseFunctionalRole r) = 7
+ruleNumber (ObjectPropertyDomain r c) = 5
+ruleNumber (ObjectPropertyRange r c) = 5
+ruleNumber (SameIndividual a b) = 6
+ruleNumber (ClassAssertion c i) = 1
+ruleNumber (ObjectPropertyAssertion r a b) = 1
+
+-- Rule 7, over n individuals and k classes: what one filler of a subject under r has, every different one has.
+abbrev pub mergeOther : ℕ → ℕ → Role → Rule
+mergeOther n k r =
+    each n λ a. each n λ b. when (edge r a b) (each n λ c. when (edge r a c)
+    (given (not (eqb b c)) (each k λ d. when (type b d) (keep (type c d)))))
+
+-- One use of a statement's rule. It is that of the smallest sets, but for rule 7, which asks here that the two fillers differ: for one filler taken twice
+-- the fact that follows is the one that is named.
+abbrev pub useOf : Book → Axiom → Rule
+useOf B (SubClassOf c d) = ruleOf B (SubClassOf c d)
+useOf B (EquivalentClasses c d) = ruleOf B (EquivalentClasses c d)
+useOf B (DisjointClasses c d) = ruleOf B (DisjointClasses c d)
+useOf B (InverseObjectProperties r s) = ruleOf B (InverseObjectProperties r s)
+useOf B (SubObjectPropertyOf p t) = ruleOf B (SubObjectPropertyOf p t)
+useOf B (TransitiveRole r) = ruleOf B (TransitiveRole r)
+useOf B (SymmetricRole r) = ruleOf B (SymmetricRole r)
+useOf B (FunctionalRole r) = mergeOther (B .counts .individuals) (B .counts .classes) r
+useOf B (InverseFunctionalRole r) = mergeOther (B .counts .individuals) (B .counts .classes) (flipped r)
+useOf B (ObjectPropertyDomain r c) = ruleOf B (ObjectPropertyDomain r c)
+useOf B (ObjectPropertyRange r c) = ruleOf B (ObjectPropertyRange r c)
+useOf B (SameIndividual a b) = ruleOf B (SameIndividual a b)
+useOf B (ClassAssertion c i) = ruleOf B (ClassAssertion c i)
+useOf B (ObjectPropertyAssertion r a b) = ruleOf B (ObjectPropertyAssertion r a b)
+
+-- member k of a list, if there is one
+abbrev pub member : {A : Type 0} → List A → ℕ → List A
+member [] k = []
+member (x ∷ xs) zero = x ∷ []
+member (x ∷ xs) (suc k) = member xs k
+
+-- whether the fact f follows from the facts P by one use of the rule of a number and a statement
+abbrev pub byAxiom : Book → ℕ → Set → ℕ → Axiom → Bool
+byAxiom B n P f s = eqb (ruleNumber s) n && yields (useOf B s) P f
+
+-- rules 1 to 5 and 7: by the statement that the row names, from the facts P of the rows that it names
+unfoldable pub byStatement : Book → Row → Set → ℕ → Bool
+byStatement B r P f = some (member (statements B) (r .statement)) (byAxiom B (r .rule) P f)
+
+-- rule 6, both ends at once; an individual is in its own told-same class
+abbrev pub sharingBoth : Book → Rule
+sharingBoth B =
+    both (each (B .counts .individuals) λ i. each (B .counts .individuals) λ j. given (same B i j)
+    (each (B .counts .classes) λ c. when (type i c) (keep (type j c))))
+    (each (B .counts .individuals) λ i. each (B .counts .individuals) λ j. given (same B i j)
+    (each (B .counts .individuals) λ a. each (B .counts .individuals) λ b. given (same B a b)
+    (each (B .counts .roles) λ r. when (edge (Named r) i a) (keep (edge (Named r) j b)))))
+
+-- rule 6 names no statement: the told-same classes are known
+unfoldable pub bySharing : Book → Row → Set → ℕ → Bool
+bySharing B r P f = eqb (r .rule) 6 && (eqb (r .statement) none && yields (sharingBoth B) P f)
+
+-- rule 8 names a statement of the book or none, and all of them are known
+unfoldable pub byClash : Book → Row → Set → Bool
+byClash B r P = eqb (r .rule) 8 && ((eqb (r .statement) none || ltb (r .statement) (length (statements B))) && clashes B P)
+
+-- what a row claims follows from the facts P of the rows that it names
+abbrev pub follows : Book → Row → Set → Claim → Bool
+follows B r P (fact f) = byStatement B r P f || bySharing B r P f
+follows B r P clash = byClash B r P
+follows B r P nothing = false
+
+-- what row k of a list claims
+abbrev pub claimAt : Book → List ℕ → ℕ → Claim
+claimAt B l k = claim (B .counts) (rowAt l k)
+
+-- row k of a list is accepted, where those before it are
+unfoldable pub accepts : Book → List ℕ → ℕ → Bool
+accepts B l k = let r = rowAt l k in earlier k r && follows B r (named (B .counts) l r) (claimAt B l k)
+
+-- of the first n rows, how many stand before the first that is not accepted
+unfoldable pub standing : Book → List ℕ → ℕ → ℕ
+standing B l zero = zero
+standing B l (suc n) = let k = standing B l n in pick (eqb k n && accepts B l n) (suc n) k
+
+-- of all rows of a list; an incomplete row is none
+unfoldable pub stands : Book → List ℕ → ℕ
+stands B l = standing B l (length l / 9)
+
+-- what the checker returns: how many rows stand before the first that is not accepted, or the book's refusal
+pub data Judged : Type 0 where
+  standRows : ℕ → Judged
+  faultyBook : ℕ → Judged
+
+unfoldable pub judged : List ℕ → List ℕ → Judged
+judged s l = onDecoded (decode s) faultyBook λ B. standRows (stands B l)
