@@ -26,13 +26,13 @@ use Rattle.rules.specs.Meaning.{rules, conclusions}
 use Rattle.rules.specs.Same.{samePair}
 use Rattle.rules.specs.Clash.{marked, typeClash, markerClash, clashes}
 use Rattle.rules.specs.Lists.{types, edges, pairs, used}
-use Rattle.rules.specs.Ends.{End, Refused, Spent, Clash, Finished, Outcome, untouched, outcomeFrom, onDecoded, outcome}
+use Rattle.rules.specs.Ends.{End, Refused, Spent, Clash, Finished, Outcome, outcomeFrom, startsWith, outcomeOf}
 use Rattle.book.specs.Within.{Every}
 use Rattle.rules.specs.Applied.{In}
 use Rattle.rules.specs.Bars.{Bar, nines, expected, Holds, plainBar, bars}
 use Rattle.rules.proofs.Tests.{false-true, or-cases, and-both}
 use Rattle.rules.proofs.Least.{yields-in}
-use Rattle.rules.proofs.Inside.{accepted-inside}
+use Rattle.rules.proofs.Inside.{Inside, accepted-inside}
 use Rattle.rules.proofs.Conclusions.{are-conclusions}
 
 -- the set of a list
@@ -149,15 +149,7 @@ outcome-true x y e =
 -- the outcome of a run, with a set in the place of the conclusions
 module _ (budget : ℕ) (ts es ps : List ℕ) where
   abbrev pub outcomeWith : Decoded → (Book → Set) → Outcome
-  outcomeWith d S =
-      pick (ltb 1000000 budget) (untouched ts es ps (Refused 1))
-      (pick (ltb (length es) (3 * budget)) (untouched ts es ps (Refused 2))
-      (pick (ltb (length ts) (2 * budget)) (untouched ts es ps (Refused 3))
-      (onDecoded d (λ n. untouched ts es ps (Refused n)) λ B. outcomeFrom B (S B) budget ts es ps)))
-
-  outcome-with : (s : List ℕ) (d : Decoded) → decode s ≡ d → outcome s budget ts es ps ≡ outcomeWith d conclusions
-  unfolding outcome
-  outcome-with s d e = ap (λ (x : Decoded). outcomeWith x conclusions) e
+  outcomeWith d S = startsWith d budget ts es ps λ B. outcomeFrom B (S B) budget ts es ps
 
   outcome-accepted : (B : Book) (P : Set) → P ≡ conclusions B → outcomeWith (accepted B) conclusions ≡ outcomeWith (accepted B) (λ x. P)
   outcome-accepted B P e = ap (λ (S : Set). outcomeWith (accepted B) (λ x. S)) (sym e)
@@ -167,28 +159,31 @@ abbrev pub test-facts : Decoded → List ℕ → Bool
 test-facts (refused n) l = true
 test-facts (accepted B) l = obeys (rules B) (mem l) && drawn (rules B) l
 
-abbrev pub run-with : Bar → Decoded → (Book → Set) → Outcome
-run-with b = outcomeWith (b .budget) (nines (b .typeRoom)) (nines (b .edgeRoom)) (nines (b .pairRoom))
+-- facts that obey the rules and were each drawn by them are the conclusions
+are-facts : (B : Book) → Inside B → (l : List ℕ) → test-facts (accepted B) l ≡ true → mem l ≡ conclusions B
+are-facts B inside l t =
+    let f = and-both (obeys (rules B) (mem l)) (drawn (rules B) l) t in
+    are-conclusions B inside (mem l) (obeys-true (rules B) (mem l) (f .0)) (drawn-in (rules B) l (f .1))
 
-unfoldable pub test : Bar → Bool
-test b = let d = decode (b .book) in test-facts d (b .facts) && same-outcome (run-with b d (λ B. mem (b .facts))) (expected b)
+-- the computed test of a run on what was read, where the facts l are said to be the conclusions, and o the outcome
+abbrev pub test-row : Decoded → List ℕ → ℕ → List ℕ → List ℕ → List ℕ → Outcome → Bool
+test-row d l budget ts es ps o = test-facts d l && same-outcome (outcomeWith budget ts es ps d (λ B. mem l)) o
 
 -- THE theorem: a row whose test comes out holds
+pub row-holds : (d : Decoded) → ((B : Book) → d ≡ accepted B → Inside B) → (l : List ℕ) (budget : ℕ) (ts es ps : List ℕ) (o : Outcome) → test-row d l budget ts es ps o ≡ true → outcomeOf d budget ts es ps ≡ o
+unfolding outcomeOf
+row-holds (refused n) inside l budget ts es ps o t = outcome-true (outcomeWith budget ts es ps (refused n) (λ B. mem l)) o t
+row-holds (accepted B) inside l budget ts es ps o t =
+    let a = and-both (test-facts (accepted B) l) (same-outcome (outcomeWith budget ts es ps (accepted B) (λ B. mem l)) o) t in
+    outcome-accepted budget ts es ps B (mem l) (are-facts B (inside B refl) l (a .0))
+    ∙ outcome-true (outcomeWith budget ts es ps (accepted B) (λ B. mem l)) o (a .1)
+
+unfoldable pub test : Bar → Bool
+test b = let d = decode (b .book) in test-row d (b .facts) (b .budget) (nines (b .typeRoom)) (nines (b .edgeRoom)) (nines (b .pairRoom)) (expected b)
+
 pub bar-holds : (b : Bar) → test b ≡ true → Holds b
 unfolding test
-bar-holds b e = go (decode (b .book)) refl e
-  where
-    go : (d : Decoded) → decode (b .book) ≡ d → (test-facts d (b .facts) && same-outcome (run-with b d (λ B. mem (b .facts))) (expected b)) ≡ true → Holds b
-    go (refused n) q t =
-        outcome-with (b .budget) (nines (b .typeRoom)) (nines (b .edgeRoom)) (nines (b .pairRoom)) (b .book) (refused n) q
-        ∙ outcome-true (run-with b (refused n) (λ B. mem (b .facts))) (expected b) t
-    go (accepted B) q t =
-        let a = and-both (test-facts (accepted B) (b .facts)) (same-outcome (run-with b (accepted B) (λ B. mem (b .facts))) (expected b)) t in
-        let f = and-both (obeys (rules B) (mem (b .facts))) (drawn (rules B) (b .facts)) (a .0) in
-        let c : mem (b .facts) ≡ conclusions B = are-conclusions B (accepted-inside (b .book) B q) (mem (b .facts)) (obeys-true (rules B) (mem (b .facts)) (f .0)) (drawn-in (rules B) (b .facts) (f .1)) in
-        outcome-with (b .budget) (nines (b .typeRoom)) (nines (b .edgeRoom)) (nines (b .pairRoom)) (b .book) (accepted B) q
-        ∙ (outcome-accepted (b .budget) (nines (b .typeRoom)) (nines (b .edgeRoom)) (nines (b .pairRoom)) B (mem (b .facts)) c
-        ∙ outcome-true (run-with b (accepted B) (λ B. mem (b .facts))) (expected b) (a .1))
+bar-holds b e = row-holds (decode (b .book)) (λ B q. accepted-inside (b .book) B q) (b .facts) (b .budget) (nines (b .typeRoom)) (nines (b .edgeRoom)) (nines (b .pairRoom)) (expected b) e
 
 abbrev tests : List Bar → Bool
 tests [] = true

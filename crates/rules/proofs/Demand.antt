@@ -5,14 +5,14 @@ use mathlib.Core.Bool.{true}
 use mathlib.Core.List.{List, _++_}
 use mathlib.Core.Logic.{inl, inr}
 use lib.ListN.{length, replicate}
-use Rattle.book.specs.Book.{Book, accepted, decode}
+use Rattle.book.specs.Book.{Book, Decoded, accepted, decode}
 use Rattle.book.specs.declared.role.Role.the-variants.{Named}
 use Rattle.rules.specs.Fact.{edge, type, Two, Three}
 use Rattle.rules.specs.Rule.{Set}
 use Rattle.rules.specs.Meaning.{conclusions}
 use Rattle.rules.specs.Same.{samePair}
 use Rattle.rules.specs.Lists.{types, edges, pairs, entries2, entries3}
-use Rattle.rules.specs.Ends.{Finished, Outcome, outcome, Lists2, Lists3}
+use Rattle.rules.specs.Ends.{Finished, Outcome, outcomeOf, outcome, Lists2, Lists3}
 use Rattle.rules.specs.World.{World, leads, Fits, TypeTrue, EdgeTrue, PairTrue}
 use Rattle.rules.specs.Plain.{Plain}
 use Rattle.rules.specs.Demand.{Clashed, Decided, NoWorld, UnlistedFalse, Demand}
@@ -23,12 +23,9 @@ use Rattle.rules.proofs.Listed.{lists2-true, lists3-true, in-lists2, in
 use Rattle.rules.proofs.Complete.{canonical, canonical-fits, type-false, edge-false}
 use Rattle.rules.proofs.Ended.{IsFinished, ends-finished, ends-clash}
 
-module _ (s : List ℕ) (budget : ℕ) (ts es ps : List ℕ) (B : Book) (book : decode s ≡ accepted B) where
+module _ (d : Decoded) (budget : ℕ) (ts es ps : List ℕ) (B : Book) (book : d ≡ accepted B) (inside : Inside B) where
   abbrev pub run : Outcome
-  run = outcome s budget ts es ps
-
-  inside : Inside B
-  inside = accepted-inside s B book
+  run = outcomeOf d budget ts es ps
 
   abbrev S : Set
   S = conclusions B
@@ -36,7 +33,7 @@ module _ (s : List ℕ) (budget : ℕ) (ts es ps : List ℕ) (B : Book) (book : 
   -- the lists of a finished run
   module _ (t e p : ℕ) (ended : run .end ≡ Finished t e p) where
     pub is : IsFinished ts es ps B S budget run
-    is = ends-finished ts es ps s budget B book t e p ended
+    is = ends-finished ts es ps d budget B book t e p ended
 
     -- the counts are those of the smallest sets
     same-end : Finished (length (types B S)) (length (edges B S)) (length (pairs B S)) ≡ Finished t e p
@@ -94,7 +91,7 @@ module _ (s : List ℕ) (budget : ℕ) (ts es ps : List ℕ) (B : Book) (book : 
 
   -- a clash leaves no world
   none-fits : Clashed (run .end) → NoWorld B
-  none-fits (t, e, q) W fits = no-clash W B inside fits S (conclusions-true W B inside fits) (ends-clash ts es ps s budget B book t e q .stands)
+  none-fits (t, e, q) W fits = no-clash W B inside fits S (conclusions-true W B inside fits) (ends-clash ts es ps d budget B book t e q .stands)
 
   -- on a plain book the canonical world fits after finished, and has no fact that is not listed
   plain-fits : Plain B → (t e p : ℕ) → run .end ≡ Finished t e p → Fits (canonical B) B
@@ -111,12 +108,16 @@ module _ (s : List ℕ) (budget : ℕ) (ts es ps : List ℕ) (B : Book) (book : 
   clash-if-none plain (inl (t, e, p, q)) none = absurd (none (canonical B) (plain-fits plain t e p q))
   clash-if-none plain (inr c) none = c
 
-  -- DEMAND 3
-  pub demand : Demand B run
-  demand =
+  -- DEMAND 3, of the book that a run speaks of
+  pub demand-of : Demand B run
+  demand-of =
       record {
         listed-true = λ t e p q W fits. record { types = types-true t e p q W fits; edges = edges-true t e p q W fits; pairs = pairs-true t e p q W fits };
         clash-none = none-fits;
-        plain-clash = λ plain d. (none-fits, clash-if-none plain d);
+        plain-clash = λ plain x. (none-fits, clash-if-none plain x);
         plain-unlisted = unlisted;
       }
+
+-- and of a run on bytes
+pub demand : (s : List ℕ) (budget : ℕ) (ts es ps : List ℕ) (B : Book) → decode s ≡ accepted B → Demand B (outcome s budget ts es ps)
+demand s budget ts es ps B book = demand-of (decode s) budget ts es ps B book (accepted-inside s B book)

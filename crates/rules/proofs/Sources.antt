@@ -10,7 +10,7 @@ use Rattle.book.specs.Within.{Every}
 use Rattle.book.specs.Book.{Book, axioms, accepted, decode}
 use Rattle.rules.specs.Rule.{Set}
 use Rattle.rules.specs.Meaning.{conclusions}
-use Rattle.rules.specs.Ends.{outcomeFrom, outcome}
+use Rattle.rules.specs.Ends.{outcomeFrom, outcomeOf, outcome}
 use Rattle.rules.proofs.Inside.{Inside, accepted-inside}
 use Rattle.rules.proofs.Members.{conclusions-same, outcome-same}
 
@@ -49,5 +49,5 @@ module _ (A B : Book) (alike : SameButSources A B) where
 
 -- on bytes
 pub sources-ignored : (s t : List ℕ) (A B : Book) → decode s ≡ accepted A → decode t ≡ accepted B → SameButSources A B → (budget : ℕ) (ts es ps : List ℕ) → outcome s budget ts es ps ≡ outcome t budget ts es ps
-unfolding outcome
+unfolding outcomeOf
 sources-ignored s t A B p q alike budget ts es ps = simp (p, q, run-ignores A B alike (accepted-inside s A p) (accepted-inside t B q))

@@ -19,7 +19,7 @@ use Rattle.book.proofs.header.Laws.{header-goes}
 use Rattle.book.proofs.Bytes.{Laid, header-read, header-laid, statements-read, statements-laid, has-put, has-append, has-whole}
 use Rattle.book.proofs.Local.{Agrees, forward-concepts, local-concepts, concepts-same}
 use Rattle.book.proofs.Accepted.{decode-of, record-same, forward-statement, Layout, layout, offset-is, accepted-limits, accepted-statements, accepted-records}
-use Rattle.rules.specs.Ends.{outcome, outcomeFrom}
+use Rattle.rules.specs.Ends.{outcomeFrom, outcomeOf, outcome}
 use Rattle.rules.specs.Rule.{Set}
 use Rattle.rules.specs.Meaning.{conclusions}
 use Rattle.rules.specs.Demand.{Demand}
@@ -209,7 +209,7 @@ module _ (s : List ℕ) (B : Book) (whole : decode s ≡ accepted B) where
 
   -- 4. Every run of the written book ends as the original's does, lists included.
   pub written-runs : (budget : ℕ) (ts es ps : List ℕ) → outcome (written s) budget ts es ps ≡ outcome s budget ts es ps
-  unfolding outcome
+  unfolding outcomeOf
   written-runs budget ts es ps = simp (written-decodes, whole, run-same)
 
   -- Demand 3 carries over: what a run of the written book lists holds in every world that fits the original, and so on.
