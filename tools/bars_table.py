@@ -2,8 +2,8 @@
 leave open. Each row has a book, a budget, the lengths of the three lists, and by hand what a run must come
 to: its end as the program prints it, and the types, edges and pairs that it lists.
 
-`bars` has the rows that are proved and run, `runs` those that are only run: input that is no book, and books
-that fill the program's lists.
+`bars` has the rows that are proved and run, `readings` those of runs that name a reader, also proved and run, and
+`runs` those that are only run: input that is no book, and books that fill the program's lists.
 
 In a comment p, q are roles 0 and 1, A to D classes 0 to 3.
 """
@@ -44,8 +44,10 @@ class Register:
 
 
 class Bar:
-    def __init__(self, label, book, end, types=(), edges=(), pairs=(), starred=False, budget=12, room=6, type_room=None, edge_room=None):
-        self.label, self.starred, self.budget, self.end = label, starred, budget, end
+    """`reader` is the number of the reader that the run names and the words of its table, or None."""
+
+    def __init__(self, label, book, end, types=(), edges=(), pairs=(), starred=False, budget=12, room=6, type_room=None, edge_room=None, reader=None):
+        self.label, self.starred, self.budget, self.end, self.reader = label, starred, budget, end, reader
         self.data = book.data() if isinstance(book, Register) else bytes(book)
         self.type_room = 2 * budget if type_room is None else type_room
         self.edge_room = 3 * budget if edge_room is None else edge_room
@@ -280,6 +282,67 @@ def bars():
     b.tell(f.SAME, 0, 1).tell(f.CLASS_ASSERTION, told, 0).tell(f.ROLE_ASSERTION, P, 0, 2)
     row('a plain book', b, 'finished 8 6 0', types=[(0, 0), (0, 1), (0, 2), (1, 0), (1, 1), (1, 2), (2, 1), (2, 2)],
         edges=[(0, 0, 2), (0, 1, 2), (1, 0, 2), (1, 1, 2), (1, 2, 0), (1, 2, 1)], budget=14)
+    return out
+
+
+def words(length=1024, **by_source):
+    """A table: the words of some sources, as s7=0b11 for source 7, and 0 for all others."""
+    return [by_source.get(f's{source}', 0) for source in range(length)]
+
+
+def readings():
+    out = []
+
+    def row(label, book, end, reader, **rest):
+        out.append(Bar(label, book, end, reader=reader, **rest))
+
+    # which statements count: source 1 is read by readers 0 and 31, source 2 by reader 0, and the word of source 0 has no bit
+    some = words(s1=0x80000001, s2=1)
+    b = Register(0, 1, 3).tell(f.ROLE_ASSERTION, P, 0, 1).tell(f.ROLE_ASSERTION, P, 1, 2, source=1).tell(f.TRANSITIVE, P, source=2)
+    every, told, shared = [(0, 0, 1), (0, 0, 2), (0, 1, 2)], [(0, 0, 1), (0, 1, 2)], [(0, 0, 1)]
+    row('no reader: all statements', b, 'finished 0 3 0', None, edges=every)
+    row('reader 0 may read sources 1 and 2', b, 'finished 0 3 0', (0, some), edges=every)
+    row('reader 31, the highest bit, may read source 1', b, 'finished 0 2 0', (31, some), edges=told)
+    row('reader 1 may read the shared book alone, whose word is 0', b, 'finished 0 1 0', (1, some), edges=shared)
+    row('every bit but that of reader 1', b, 'finished 0 1 0', (1, words(s0=0xFFFFFFFD, s1=0xFFFFFFFD, s2=0xFFFFFFFD)), edges=shared)
+    row('no bit but those of reader 1', b, 'finished 0 3 0', (1, words(s1=2, s2=2)), edges=every)
+    row('the budget is for what reader 1 may read', b, 'finished 0 1 0', (1, some), edges=shared, budget=1)
+    row('and reader 31 has spent it', b, 'spent', (31, some), budget=1)
+    b = Register(0, 1, 3).tell(f.ROLE_ASSERTION, P, 0, 1, source=1023).tell(f.ROLE_ASSERTION, P, 1, 2, source=1022)
+    row('source 1,023 has the last word', b, 'finished 0 1 0', (5, words(s1023=1 << 5)), edges=[(0, 0, 1)])
+
+    # every part of the conclusions comes from readable statements
+    own = words(s1=1)
+    b = Register(0, 1, 2).tell(f.SAME, 0, 1, source=1).tell(f.ROLE_ASSERTION, P, 0, 0)
+    row('0 same as 1 by source 1, p(0,0): 4 edges for reader 0', b, 'finished 0 4 0', (0, own), edges=[(0, 0, 0), (0, 0, 1), (0, 1, 0), (0, 1, 1)])
+    row('and 1 for reader 1', b, 'finished 0 1 0', (1, own), edges=[(0, 0, 0)])
+    b = Register(2, 0, 1)
+    a, c = b.classes(2)
+    b.tell(f.DISJOINT, a, c, source=1).tell(f.CLASS_ASSERTION, a, 0).tell(f.CLASS_ASSERTION, c, 0)
+    row('A and B disjoint by source 1, 0:A, 0:B: clash for reader 0', b, 'clash 2 0', (0, own))
+    row('and none for reader 1', b, 'finished 2 0 0', (1, own), types=[(0, 0), (0, 1)])
+    b = Register(1, 1, 3)
+    a, = b.classes(1)
+    b.tell(f.FUNCTIONAL, P, source=1).tell(f.ROLE_ASSERTION, P, 0, 1).tell(f.ROLE_ASSERTION, P, 0, 2).tell(f.CLASS_ASSERTION, a, 1)
+    row('p functional by source 1, p(0,1), p(0,2), 1:A: a same pair for reader 0', b, 'finished 2 2 1', (0, own), types=[(1, 0), (2, 0)], edges=[(0, 0, 1), (0, 0, 2)], pairs=[(1, 2)])
+    row('which his pair list has no room for: refused 11', b, 'refused 11', (0, own), room=1)
+    row('reader 1 has no pair, and needs no room', b, 'finished 1 2 0', (1, own), types=[(1, 0)], edges=[(0, 0, 1), (0, 0, 2)], room=1)
+    b = Register(2, 0, 1)
+    a, c = b.classes(2)
+    b.tell(f.SUB_CLASS, a, c, source=1).tell(f.CLASS_ASSERTION, a, 0)
+    row('A under B by source 1, 0:A: B for reader 0', b, 'finished 2 0 0', (0, own), types=[(0, 0), (0, 1)])
+    row('and not for reader 1', b, 'finished 1 0 0', (1, own), types=[(0, 0)])
+
+    # refusals: 14 and 15 in that order, after 3 and before the book; a fault in a statement that the reader may not read
+    row('reader 32: refused 14', [0], 'refused 14', (32, words()))
+    row('reader 32 and too short a table: refused 14', [0], 'refused 14', (32, words(1023)))
+    row('too short a table: refused 15', [0], 'refused 15', (31, words(1023)))
+    row('too long a table: refused 15', [0], 'refused 15', (0, words(1025)))
+    row('no bytes and no table: refused 15', [], 'refused 15', (0, []))
+    row('no bytes: refused 4', [], 'refused 4', (0, words()))
+    row('too short a type list and reader 32: refused 3', [0], 'refused 3', (32, []), budget=2, type_room=3, edge_room=6, room=1)
+    bad = Register(0, 1, 2).tell(f.ROLE_ASSERTION, P, 0, 1, source=1).data()
+    row('an individual out of range in a statement that the reader may not read: refused 9', bad[:-4] + f.u16(2) + bad[-2:], 'refused 9', (1, own))
     return out
 
 

@@ -19,7 +19,7 @@ use Rattle.book.specs.declared.check.Checked.{Checked}
 use Rattle.book.specs.declared.check.Checked.the-variants as Checked
 use Rattle.book.specs.Read.{Read, value, refusal, several}
 use Rattle.book.specs.Field.{numberAt}
-use Rattle.book.specs.Header.{header, Limits}
+use Rattle.book.specs.Header.{counting, header, Limits}
 use Rattle.book.specs.Concept.{concept}
 use Rattle.book.specs.Statement.{statement, bodies}
 use Rattle.book.specs.Tree.{Concept, none, more, nth, partTrees, treeOf}
@@ -122,7 +122,7 @@ several-every s h (suc k) at xs e t = step (several-every s h k at)
         (appended (a .0) (b .0) (old .0) (statement-within s h (a .1) (b .0) (b .1) (b .2)), length-append (a .0) (b .0 ∷ []) ∙ omega (arith, old .1))
 
 -- what keeps to the counts does so whatever the number of statements
-pub within-same : (h : Counts) (m : ℕ) (x : Axiom) → Within h x → Within (record { classes = h .classes; roles = h .roles; individuals = h .individuals; concepts = h .concepts; statements = m }) x
+pub within-same : (h : Counts) (m : ℕ) (x : Axiom) → Within h x → Within (counting h m) x
 within-same h m (SubClassOf c d) w = w
 within-same h m (EquivalentClasses c d) w = w
 within-same h m (DisjointClasses c d) w = w
@@ -140,7 +140,7 @@ within-same h m (SameIndividual i j) w = w
 within-same h m (ClassAssertion c i) w = w
 within-same h m (ObjectPropertyAssertion r i j) w = w
 
-pub record-same : (h : Counts) (m : ℕ) (x : Statement) → StatementWithin h x → StatementWithin (record { classes = h .classes; roles = h .roles; individuals = h .individuals; concepts = h .concepts; statements = m }) x
+pub record-same : (h : Counts) (m : ℕ) (x : Statement) → StatementWithin h x → StatementWithin (counting h m) x
 record-same h m x w = record { body = within-same h m (x .body) (w .body); source-top = w .source-top }
 
 -- what holds of every record's statement

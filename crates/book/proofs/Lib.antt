@@ -1,6 +1,7 @@
 pub mod Parsing
 pub mod Past
 pub mod Accepted
+pub mod Equal
 pub mod Examples
 pub mod Bytes
 pub mod Local

@@ -3,6 +3,7 @@ use Prim.Native.Nat.{ℕ, zero, suc, _<_}
 use mathlib.Core.Path.{_≡_}
 use mathlib.Core.List.{List, [], _∷_, _++_}
 use lib.ListN.{length, getD}
+use lib.Seq.{slice}
 use lib.Dec.{leb}
 use Rattle.book.specs.declared.header.Counts.{Counts}
 use Rattle.book.specs.declared.statement.Axiom.{Axiom}
@@ -13,7 +14,7 @@ use Rattle.book.specs.declared.check.Checked.{Checked}
 use Rattle.book.specs.declared.check.Checked.the-variants.{Accepted, Refused}
 use Rattle.book.specs.Read.{Read, value, refusal, onward, Parser, _>>=_, _>>_, give, unless, several}
 use Rattle.book.specs.Field.{asPassed, passed}
-use Rattle.book.specs.Header.{header}
+use Rattle.book.specs.Header.{counting, header}
 use Rattle.book.specs.Concept.{concept}
 use Rattle.book.specs.Statement.{statement, bodies}
 use Rattle.book.specs.Tree.{Concept, treeOf}
@@ -26,6 +27,10 @@ pub record Book : Type 0 where
 -- what a book says, whose statement it was apart
 abbrev pub axioms : Book → List Axiom
 axioms b = bodies (b .statements)
+
+-- the same counts and concepts with other statements, as many as there are
+abbrev pub withStatements : Book → List Statement → Book
+withStatements b xs = record { counts = counting (b .counts) (length xs); concepts = b .concepts; statements = xs }
 
 -- items are numbered from 0: the concepts below k, each a tree over those before it
 unfoldable pub concepts : Counts → ℕ → Parser (List Concept)
@@ -67,6 +72,10 @@ behind (refusal n) = 0
 -- where the record of concept k starts; of the first number that is no concept's, where the statements start
 unfoldable pub conceptOffset : List ℕ → ℕ → ℕ
 conceptOffset s k = behind (onward (header s 0) λ h at. concepts h k s at)
+
+-- the bytes of the concept records
+unfoldable pub conceptBytes : List ℕ → Book → List ℕ
+conceptBytes s b = slice (conceptOffset s 0) (conceptOffset s (b .counts .concepts)) s
 
 -- what the check answers
 abbrev pub checkOf : List ℕ → Decoded → Checked

@@ -1,16 +1,15 @@
 -- The table of worked examples, by one theorem: a list of facts that obeys the rules, each drawn from those before it, is the conclusions.
-use Prim.Native.Nat.{ℕ, zero, suc, _*_, _<_}
+use Prim.Native.Nat.{ℕ, zero, suc, _<_}
 use native.Mathlib.Decide.{ℕ-discrete}
 use native.Mathlib.Omega.{arith}
 use mathlib.Core.Path.{_≡_, refl, ap, sym, _∙_, subst}
 use mathlib.Core.Bool.{Bool, true, false, _&&_, _||_}
 use mathlib.Core.List.{List, [], _∷_}
 use mathlib.Core.Logic.{⊎-elim}
-use lib.ListN.{length}
-use lib.Dec.{eqb, ltb}
+use lib.Dec.{eqb}
 use borrow.Author.Tests.{eqb-true}
 use Rattle.book.specs.Role.{roleOf}
-use Rattle.book.specs.Read.{pick, several}
+use Rattle.book.specs.Read.{several}
 use Rattle.book.specs.Field.{byte, twoBytes, fourBytes, field, fieldsFrom, fields}
 use Rattle.book.specs.Table.{statementAllows}
 use Rattle.book.specs.Header.{header}

@@ -17,7 +17,9 @@ pub mod Sound
 pub mod SoundClash
 pub mod Complete
 pub mod Demand
+pub mod Spoken
 pub mod Engine
 pub mod Standard
 pub mod Bars
+pub mod Readings
 pub mod Witness

@@ -10,6 +10,7 @@ use Rattle.book.specs.declared.statement.Axiom.the-variants.{SubClassOf, Equiva
 use Rattle.book.specs.declared.statement.Statement.{Statement}
 use Rattle.book.specs.declared.role.Role.{Role}
 use Rattle.book.specs.declared.role.Role.the-variants.{Named, Inverse}
+use Rattle.book.specs.Header.{counting}
 use Rattle.book.specs.Within.{Every}
 use Rattle.book.specs.Statement.{bodies}
 use Rattle.book.specs.Book.{Book, axioms}
@@ -68,18 +69,7 @@ bodies-every P (x ∷ xs) h = (h .0, bodies-every P xs (h .1))
 -- a book with other statements that have the same members
 module _ (B : Book) (m : ℕ) (zs : List Statement) (to : (P : Axiom → Type 0) → Every P (axioms B) → Every P (bodies zs)) (back : (P : Axiom → Type 0) → Every P (bodies zs) → Every P (axioms B)) where
   abbrev pub other : Book
-  other =
-      record {
-        counts = record {
-          classes = B .counts .classes;
-          roles = B .counts .roles;
-          individuals = B .counts .individuals;
-          concepts = B .counts .concepts;
-          statements = m;
-        };
-        concepts = B .concepts;
-        statements = zs;
-      }
+  other = record { counts = counting (B .counts) m; concepts = B .concepts; statements = zs }
 
   rule-same : (x : Axiom) → ruleOf other x ≡ ruleOf B x
   rule-same (SubClassOf c d) = refl

@@ -46,7 +46,7 @@ abbrev pub Holds : Bar → Type 0
 Holds b = outcome (b .book) (b .budget) (nines (b .typeRoom)) (nines (b .edgeRoom)) (nines (b .pairRoom)) ≡ expected b
 
 -- budget, lengths of the type, edge and pair list, book, facts, end, and what is listed
-abbrev bar : ℕ → ℕ → ℕ → ℕ → List ℕ → List ℕ → End → List ℕ → List ℕ → List ℕ → Bar
+abbrev pub bar : ℕ → ℕ → ℕ → ℕ → List ℕ → List ℕ → End → List ℕ → List ℕ → List ℕ → Bar
 bar budget typeRoom edgeRoom pairRoom book facts end types edges pairs =
     record { book = book; budget = budget; typeRoom = typeRoom; edgeRoom = edgeRoom; pairRoom = pairRoom; facts = facts; end = end; types = types; edges = edges; pairs = pairs }
 

@@ -11,8 +11,8 @@ use lib.Dec.{eqb}
 use borrow.Author.Tests.{ne-eqb, eqb-true, eqb-false}
 use Rattle.book.specs.declared.header.Counts.{Counts}
 use Rattle.book.specs.Read.{pick}
+use Rattle.book.specs.Header.{counting}
 use Rattle.book.specs.Bytes.{twoOf, Place, gap, put, mapOf, bytesOf, count, countPlaces, headerBytes}
-use Rattle.writer.specs.Kept.{lowered}
 use Rattle.writer.specs.Lay.{recounted}
 
 abbrev four : Counts → List Place
@@ -32,30 +32,30 @@ map-append (put v ∷ ps) qs rs e = ap (λ (n : ℕ). 2 * n + 1) (map-append ps 
 frontBytes : Counts → List ℕ
 frontBytes h = mapOf (four h ++ (put 1 ∷ [])) ∷ bytesOf (four h)
 
-header-front : (h : Counts) (m : ℕ) → (m ≡ 0 → ⊥) → headerBytes (lowered h m) ≡ frontBytes h ++ twoOf m
+header-front : (h : Counts) (m : ℕ) → (m ≡ 0 → ⊥) → headerBytes (counting h m) ≡ frontBytes h ++ twoOf m
 unfolding headerBytes frontBytes
 header-front h m d =
     let gs = replicate 11 gap in
     let q : count m ≡ put m = ap (λ (b : Bool). pick b gap (put m)) (ne-eqb m 0 d) in
-    let places : countPlaces (lowered h m) ≡ four h ++ (put m ∷ gs) = ap (λ (p : Place). four h ++ (p ∷ gs)) q in
+    let places : countPlaces (counting h m) ≡ four h ++ (put m ∷ gs) = ap (λ (p : Place). four h ++ (p ∷ gs)) q in
     ap₂ (λ (a : ℕ) (b : List ℕ). a ∷ b) (ap mapOf places ∙ map-append (four h) (put m ∷ gs) (put 1 ∷ []) refl) (ap bytesOf places ∙ bytes-append (four h) (put m ∷ gs))
 
 -- so its length stays, while the count does not fall to 0
-pub header-length : (h : Counts) (m : ℕ) → (m ≡ 0 → h .statements ≡ 0) → (h .statements ≡ 0 → m ≡ 0) → length (headerBytes (lowered h m)) ≡ length (headerBytes h)
+pub header-length : (h : Counts) (m : ℕ) → (m ≡ 0 → h .statements ≡ 0) → (h .statements ≡ 0 → m ≡ 0) → length (headerBytes (counting h m)) ≡ length (headerBytes h)
 header-length h m f g = go (ℕ-discrete m 0)
   where
-    go : Dec (m ≡ 0) → length (headerBytes (lowered h m)) ≡ length (headerBytes h)
-    go (yes e) = ap (λ (n : ℕ). length (headerBytes (lowered h n))) (e ∙ sym (f e))
+    go : Dec (m ≡ 0) → length (headerBytes (counting h m)) ≡ length (headerBytes h)
+    go (yes e) = ap (λ (n : ℕ). length (headerBytes (counting h n))) (e ∙ sym (f e))
     go (no d) =
         ap length (header-front h m d)
         ∙ (length-append (frontBytes h) (twoOf m) ∙ (sym (length-append (frontBytes h) (twoOf (h .statements))) ∙ sym (ap length (header-front h (h .statements) (λ z. d (g z))))))
 
-pub header-recounts : (h : Counts) (m : ℕ) → (m ≡ 0 → h .statements ≡ 0) → (h .statements ≡ 0 → m ≡ 0) → recounted (headerBytes h) m ≡ headerBytes (lowered h m)
+pub header-recounts : (h : Counts) (m : ℕ) → (m ≡ 0 → h .statements ≡ 0) → (h .statements ≡ 0 → m ≡ 0) → recounted (headerBytes h) m ≡ headerBytes (counting h m)
 unfolding recounted
 header-recounts h m f g = go (eqb m 0) refl
   where
-    go : (b : Bool) → eqb m 0 ≡ b → pick b (headerBytes h) (take (length (headerBytes h) - 2) (headerBytes h) ++ twoOf m) ≡ headerBytes (lowered h m)
-    go true e = ap (λ (n : ℕ). headerBytes (lowered h n)) (f (eqb-true m 0 e) ∙ sym (eqb-true m 0 e))
+    go : (b : Bool) → eqb m 0 ≡ b → pick b (headerBytes h) (take (length (headerBytes h) - 2) (headerBytes h) ++ twoOf m) ≡ headerBytes (counting h m)
+    go true e = ap (λ (n : ℕ). headerBytes (counting h n)) (f (eqb-true m 0 e) ∙ sym (eqb-true m 0 e))
     go false e =
         let d : (m ≡ 0 → ⊥) = eqb-false m 0 e in
         let q : headerBytes h ≡ frontBytes h ++ twoOf (h .statements) = header-front h (h .statements) (λ z. d (g z)) in

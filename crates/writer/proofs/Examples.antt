@@ -9,10 +9,10 @@ use Rattle.book.specs.Table.{statementAllows}
 use Rattle.book.specs.Header.{header}
 use Rattle.book.specs.Statement.{statementStart, pathOf, axiomOf, statementRest, statement}
 use Rattle.book.specs.Bytes.{headerBytes, statementBytes, statementsBytes, repeats}
-use Rattle.book.specs.Book.{concepts, book, decode, conceptOffset}
+use Rattle.book.specs.Book.{concepts, book, decode, conceptOffset, conceptBytes}
 use Rattle.writer.specs.declared.write.Answer.the-variants.{Written, Refused}
 use Rattle.writer.specs.Kept.{without, kept, cleaned}
-use Rattle.writer.specs.Written.{conceptBytes, writtenOf, written, writes}
+use Rattle.writer.specs.Written.{writtenOf, written, writes}
 
 -- a header of one role and two individuals, with a statement count
 abbrev counted : ℕ → List ℕ

@@ -11,7 +11,7 @@ use borrow.Author.Tests.{eq-eqb, ne-eqb, eqb-true, eqb-false, lt-ltb, le-ltb}
 use Rattle.book.specs.declared.header.Counts.{Counts}
 use Rattle.book.specs.declared.statement.Statement.{Statement}
 use Rattle.book.specs.Read.{pick}
-use Rattle.book.specs.Header.{Limits}
+use Rattle.book.specs.Header.{counting, Limits}
 use Rattle.book.specs.Reader.{rest}
 use Rattle.book.specs.Bytes.{Bytes, Has, headerBytes, statementBytes, statementsBytes}
 use Rattle.book.specs.declared.check.Checked.{Checked}
@@ -19,7 +19,7 @@ use Rattle.book.specs.declared.check.Checked.the-variants.{Accepted}
 use Rattle.book.specs.Book.{Book, accepted, refused, decode, conceptOffset, BookChecked}
 use Rattle.book.proofs.Bytes.{statement-read, bytes-snoc}
 use Rattle.book.proofs.Accepted.{accepted-rest, accepted-limits, accepted-statements, checked-accepted}
-use Rattle.writer.specs.Kept.{kept, lowered}
+use Rattle.writer.specs.Kept.{kept}
 use Rattle.writer.specs.declared.write.Answer.the-variants.{Written, Refused}
 use Rattle.writer.specs.Written.{written, laidOut, writes}
 use Rattle.writer.specs.Gathering.{spare, Records}
@@ -95,11 +95,11 @@ module _ (s : List ℕ) (bytes : Bytes s) (h : Counts) (front start : ℕ) (loc 
         let d : (B .counts .statements ≡ 0 → ⊥) = (λ z. omega (arith, kept-length (B .statements), accepted-statements s B (loc .whole), counted)) in
         omega (arith, header-two (B .counts) d, loc .concepts-at, header-stands s B (loc .whole) .ends)
 
-    header-now : recounted (take front s) n ≡ headerBytes (lowered (B .counts) (length ks))
+    header-now : recounted (take front s) n ≡ headerBytes (counting (B .counts) (length ks))
     header-now =
         let a : (n ≡ 0 → B .counts .statements ≡ 0) = (λ z. sym (accepted-statements s B (loc .whole)) ∙ kept-none (B .statements) (counted ∙ z)) in
         let b : (B .counts .statements ≡ 0 → n ≡ 0) = (λ z. omega (arith, kept-length (B .statements), accepted-statements s B (loc .whole), counted)) in
-        ap (λ (l : List ℕ). recounted l n) header-is ∙ (header-recounts (B .counts) n a b ∙ ap (λ (i : ℕ). headerBytes (lowered (B .counts) i)) (sym counted))
+        ap (λ (l : List ℕ). recounted l n) header-is ∙ (header-recounts (B .counts) n a b ∙ ap (λ (i : ℕ). headerBytes (counting (B .counts) i)) (sym counted))
 
     back-is : recordsBytes s place size n ≡ statementsBytes ks
     back-is = records-are s bytes (B .counts) ks n place size ours (st .inside)

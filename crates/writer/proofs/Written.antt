@@ -9,15 +9,15 @@ use Rattle.book.specs.declared.header.Counts.{Counts}
 use Rattle.book.specs.declared.statement.Axiom.{Axiom}
 use Rattle.book.specs.declared.statement.Statement.{Statement}
 use Rattle.book.specs.Read.{value, several}
-use Rattle.book.specs.Header.{header, Limits}
+use Rattle.book.specs.Header.{counting, header, Limits}
 use Rattle.book.specs.Statement.{statement, bodies}
 use Rattle.book.specs.Within.{Every, StatementWithin}
 use Rattle.book.specs.Bytes.{Bytes, Has, count, headerBytes, statementsBytes}
-use Rattle.book.specs.Book.{Book, axioms, concepts, book, accepted, decode, conceptOffset}
+use Rattle.book.specs.Book.{Book, axioms, concepts, book, accepted, decode, conceptOffset, conceptBytes}
 use Rattle.book.proofs.Parsing.{forward-several}
 use Rattle.book.proofs.header.Laws.{header-goes}
 use Rattle.book.proofs.Bytes.{Laid, header-read, header-laid, statements-read, statements-laid, has-put, has-append, has-whole}
-use Rattle.book.proofs.Local.{Agrees, forward-concepts, local-concepts, concepts-same}
+use Rattle.book.proofs.Local.{forward-concepts, concepts-stay, concepts-same}
 use Rattle.book.proofs.Accepted.{decode-of, record-same, forward-statement, Layout, layout, offset-is, accepted-limits, accepted-statements, accepted-records}
 use Rattle.rules.specs.Ends.{outcomeFrom, outcomeOf, outcome}
 use Rattle.rules.specs.Rule.{Set}
@@ -26,8 +26,8 @@ use Rattle.rules.specs.Demand.{Demand}
 use Rattle.rules.proofs.Inside.{accepted-inside}
 use Rattle.rules.proofs.Tests.{every-map}
 use Rattle.rules.proofs.Demand.{demand}
-use Rattle.writer.specs.Kept.{kept, Different, lowered, cleaned}
-use Rattle.writer.specs.Written.{conceptBytes, writtenOf, written}
+use Rattle.writer.specs.Kept.{kept, Different, cleaned}
+use Rattle.writer.specs.Written.{writtenOf, written}
 use Rattle.writer.proofs.Counted.{header-length}
 use Rattle.writer.proofs.Repeats.{every-kept, kept-every, different-kept, kept-different, kept-length, kept-none}
 use Rattle.rules.proofs.Members.{every-bodies, bodies-every, conclusions-same, outcome-same}
@@ -47,7 +47,7 @@ module _ (s : List ℕ) (B : Book) (whole : decode s ≡ accepted B) where
   ks = kept (B .statements)
 
   abbrev low : Counts
-  low = lowered (B .counts) (length ks)
+  low = counting (B .counts) (length ks)
 
   abbrev front : List ℕ
   front = headerBytes low
@@ -82,7 +82,7 @@ module _ (s : List ℕ) (B : Book) (whole : decode s ≡ accepted B) where
   w-length = length-append front (middle ++ back) ∙ omega (arith, front-length, length-append middle back, middle-length, trees-go .0)
 
   -- the written bytes agree with the book on its concept records
-  agrees : Agrees s w (lay .at) (lay .start)
+  agrees : (i : ℕ) → lay .at ≤ i → i < lay .start → getD s i 0 ≡ getD w i 0
   agrees i a b =
       let q : length front + (i - lay .at) ≡ i = omega (arith, front-length) in
       let small : i - lay .at < length middle = omega (arith, middle-length) in
@@ -112,7 +112,7 @@ module _ (s : List ℕ) (B : Book) (whole : decode s ≡ accepted B) where
   w-concepts : concepts low (B .counts .concepts) w (lay .at) ≡ value (B .concepts) (lay .start)
   w-concepts =
       concepts-same (B .counts) (B .counts .concepts) (length ks) w (lay .at)
-      ∙ local-concepts (B .counts) (B .counts .concepts) s w (lay .at) (B .concepts) (lay .start) head-goes (omega (arith, w-length)) agrees (lay .trees)
+      ∙ concepts-stay (B .counts) (B .counts .concepts) s w (lay .at) (B .concepts) (lay .start) head-goes (omega (arith, w-length)) agrees (lay .trees)
 
   w-statements : several (statement low) (length ks) w (lay .start) ≡ value ks (lay .start + length back)
   w-statements =
@@ -140,7 +140,7 @@ module _ (s : List ℕ) (B : Book) (whole : decode s ≡ accepted B) where
       let goes = forward-several (statement (B .counts)) (forward-statement (B .counts)) (B .counts .statements) s (lay .start) (B .statements) (lay .end) (trees-go .1) (lay .list) in
       omega (arith, offset-last, read .ends, goes .1)
 
-  pub written-parts : written s ≡ headerBytes (lowered (B .counts) (length (kept (B .statements)))) ++ (slice (conceptOffset s 0) (conceptOffset s (B .counts .concepts)) s ++ statementsBytes (kept (B .statements)))
+  pub written-parts : written s ≡ headerBytes (counting (B .counts) (length (kept (B .statements)))) ++ (slice (conceptOffset s 0) (conceptOffset s (B .counts .concepts)) s ++ statementsBytes (kept (B .statements)))
   unfolding written writtenOf cleaned conceptBytes
   written-parts = simp whole
 
@@ -164,7 +164,7 @@ module _ (s : List ℕ) (B : Book) (whole : decode s ≡ accepted B) where
       let goes = forward-several (statement (B .counts)) (forward-statement (B .counts)) (B .counts .statements) s start (B .statements) (lay .end) (trees-go .1) (lay .list) in
       let long : length back ≡ length (statementsBytes (B .statements)) = ap (λ (l : List Statement). length (statementsBytes l)) kd in
       let size : length w ≡ length s = omega (arith, w-length, long, read .ends, goes .1, lay .ends) in
-      let has-front : Has s 0 front = subst (λ (m : ℕ). Has s 0 (headerBytes (lowered (B .counts) m))) (sym n) (header-read s 0 (B .counts) at (lay .head) .has bytes) in
+      let has-front : Has s 0 front = subst (λ (m : ℕ). Has s 0 (headerBytes (counting (B .counts) m))) (sym n) (header-read s 0 (B .counts) at (lay .head) .has bytes) in
       let has-middle : Has s at middle = slice-has s (start - at) at start (omega (arith, trees-go .0)) (trees-go .1) in
       let has-back : Has s start back = subst (λ (l : List Statement). Has s start (statementsBytes l)) (sym kd) (read .has bytes) in
       let p : 0 + length front ≡ at = omega (arith, front-length) in

@@ -1,14 +1,11 @@
 -- Which statements stay: each but those that repeat an earlier one in kind and fields, the source among them.
-use Prim.Native.Nat.{ℕ}
 use mathlib.Core.Path.{_≡_}
 use mathlib.Core.Bool.{Bool, false, not}
 use mathlib.Core.List.{List, [], _∷_, _++_}
-use lib.ListN.{length}
-use Rattle.book.specs.declared.header.Counts.{Counts}
 use Rattle.book.specs.declared.statement.Statement.{Statement}
 use Rattle.book.specs.Bytes.{repeats}
 use Rattle.book.specs.Within.{Every}
-use Rattle.book.specs.Book.{Book}
+use Rattle.book.specs.Book.{Book, withStatements}
 use Rattle.rules.specs.Lists.{only}
 use Rattle.rules.specs.Rule.{some}
 
@@ -32,13 +29,5 @@ Different [] = Unit {0}
 Different (x ∷ xs) = Every (λ y. repeats x y ≡ false) xs × Different xs
 
 -- of the header only the statement count falls
-abbrev pub lowered : Counts → ℕ → Counts
-lowered h n = record { classes = h .classes; roles = h .roles; individuals = h .individuals; concepts = h .concepts; statements = n }
-
 unfoldable pub cleaned : Book → Book
-cleaned B =
-    record {
-      counts = lowered (B .counts) (length (kept (B .statements)));
-      concepts = B .concepts;
-      statements = kept (B .statements);
-    }
+cleaned B = withStatements B (kept (B .statements))

@@ -2,21 +2,16 @@
 use Prim.Native.Nat.{ℕ}
 use mathlib.Core.List.{List, [], _++_}
 use lib.ListN.{length, drop}
-use lib.Seq.{slice}
 use lib.Dec.{ltb}
 use Rattle.book.specs.Read.{pick}
 use Rattle.book.specs.Bytes.{headerBytes, statementsBytes}
-use Rattle.book.specs.Book.{Book, decode, conceptOffset}
+use Rattle.book.specs.Book.{Book, decode, conceptBytes}
 use Rattle.rules.specs.Ends.{onDecoded}
 use Rattle.writer.specs.declared.write.Answer.{Answer}
 use Rattle.writer.specs.declared.write.Answer.the-variants.{Written, Refused}
 use Rattle.writer.specs.Kept.{kept, cleaned}
 
--- the concept records as they stand
-unfoldable pub conceptBytes : List ℕ → Book → List ℕ
-conceptBytes s B = slice (conceptOffset s 0) (conceptOffset s (B .counts .concepts)) s
-
--- the header with the lowered count, the concept records, the statements that stay
+-- the header with the lowered count, the concept records as they stand, the statements that stay
 unfoldable pub writtenOf : List ℕ → Book → List ℕ
 writtenOf s B = headerBytes (cleaned B .counts) ++ (conceptBytes s B ++ statementsBytes (kept (B .statements)))
 

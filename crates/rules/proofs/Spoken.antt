@@ -1,0 +1,218 @@
+-- Runs that name a reader: demand 3 speaks of the book spoken of, and what the reader may not read leaves no trace.
+use Prim.Native.Nat.{ℕ, _*_, _<_, _≤_}
+use native.Mathlib.Omega.{arith}
+use mathlib.Core.Path.{_≡_, refl, ap, sym, _∙_, subst}
+use mathlib.Core.Bool.{Bool, true, false}
+use mathlib.Core.List.{List, [], _∷_, _++_}
+use mathlib.Core.Logic.{_⊎_, inl, inr, ⊎-elim}
+use lib.ListN.{length, length-append}
+use lib.Dec.{ltb, eqb}
+use borrow.Author.Tests.{eq-eqb, ne-eqb, lt-ltb, le-ltb}
+use Rattle.book.specs.Read.{pick}
+use Rattle.book.specs.Header.{counting, SameCounts}
+use Rattle.book.specs.Tree.{Concept, Concepts, Top, Bot, Atomic, Nominal, SelfRestriction, Not, And, Or, Some, All, Min, Max, none, more}
+use Rattle.book.specs.Statement.{bodies}
+use Rattle.book.specs.Book.{Book, withStatements, Decoded, refused, accepted, decode, conceptBytes}
+use Rattle.book.specs.Within.{Every, Within}
+use Rattle.book.specs.declared.header.Counts.{Counts}
+use Rattle.book.specs.declared.statement.Axiom.{Axiom}
+use Rattle.book.specs.declared.statement.Statement.{Statement}
+use Rattle.book.proofs.Accepted.{within-same, accepted-statements}
+use Rattle.book.proofs.Equal.{same-concepts}
+use Rattle.rules.specs.Brought.{concept, from}
+use Rattle.rules.specs.Lists.{only}
+use Rattle.rules.specs.Ends.{Refused, Clash, Finished, untouched, outcomeOf, outcome}
+use Rattle.rules.specs.Demand.{Clashed, Demand}
+use Rattle.rules.specs.Spoken.{Reader, anyone, reader, readable, heeded, heedings, spoken, spokenOf, admitted, decodeFor, outcomeFor}
+use Rattle.rules.proofs.Inside.{ConceptIn, ConceptsIn, Inside, accepted-inside}
+use Rattle.rules.proofs.Demand.{demand-of}
+
+-- a refused run says nothing of worlds
+module _ (n budget : ℕ) (ts es ps : List ℕ) where
+  refused-end : (k : ℕ) × (outcomeOf (refused n) budget ts es ps .end ≡ Refused k)
+  unfolding outcomeOf
+  refused-end = go (ltb 1000000 budget) (ltb (length es) (3 * budget)) (ltb (length ts) (2 * budget))
+    where
+      go : (a b c : Bool) → (k : ℕ) × (pick a (untouched ts es ps (Refused 1)) (pick b (untouched ts es ps (Refused 2)) (pick c (untouched ts es ps (Refused 3)) (untouched ts es ps (Refused n)))) .end ≡ Refused k)
+      go true b c = (1, refl)
+      go false true c = (2, refl)
+      go false false true = (3, refl)
+      go false false false = (n, refl)
+
+  not-finished : {A : Type 0} (t e p : ℕ) → outcomeOf (refused n) budget ts es ps .end ≡ Finished t e p → A
+  not-finished t e p q = absurd (let z : Refused (refused-end .0) ≡ Finished t e p = sym (refused-end .1) ∙ q in let o : _≡_ {A = ℕ} 0 1 = cc in omega arith)
+
+  not-clashed : {A : Type 0} → Clashed (outcomeOf (refused n) budget ts es ps .end) → A
+  not-clashed (t, e, q) = absurd (let z : Refused (refused-end .0) ≡ Clash t e = sym (refused-end .1) ∙ q in let o : _≡_ {A = ℕ} 0 1 = cc in omega arith)
+
+  refused-demand : (B : Book) → Demand B (outcomeOf (refused n) budget ts es ps)
+  refused-demand B =
+      record {
+        listed-true = λ t e p q. not-finished t e p q;
+        clash-none = λ c. not-clashed c;
+        plain-clash = λ plain x. ⊎-elim (λ f. not-finished (f .0) (f .1) (f .2) (f .3)) (λ c. not-clashed c) x;
+        plain-unlisted = λ plain t e p q. not-finished t e p q;
+      }
+
+-- what keeps to the counts does so whatever the number of statements
+module _ (h : Counts) (k : ℕ) where
+  mutual
+    concept-same : (e : Concept) → ConceptIn h e → ConceptIn (counting h k) e
+    concept-same Top w = tt
+    concept-same Bot w = tt
+    concept-same (Atomic c) w = w
+    concept-same (Nominal b) w = w
+    concept-same (SelfRestriction r) w = w
+    concept-same (Not e) w = concept-same e w
+    concept-same (And es) w = concepts-same es w
+    concept-same (Or es) w = concepts-same es w
+    concept-same (Some r e) w = (w .0, concept-same e (w .1))
+    concept-same (All r e) w = (w .0, concept-same e (w .1))
+    concept-same (Min n r e) w = (w .0, concept-same e (w .1))
+    concept-same (Max n r e) w = (w .0, concept-same e (w .1))
+
+    concepts-same : (es : Concepts) → ConceptsIn h es → ConceptsIn (counting h k) es
+    concepts-same none w = tt
+    concepts-same (more e es) w = (concept-same e (w .0), concepts-same es (w .1))
+
+heedings-length : (r : Reader) (xs : List Statement) → length (heedings r xs) ≤ length xs
+unfolding heedings
+heedings-length r [] = omega arith
+heedings-length r (x ∷ xs) = omega (arith, length-append (only (heeded r x) x) (from xs λ y. only (heeded r y) y), one (heeded r x), heedings-length r xs)
+  where
+    one : (b : Bool) → length (only b x) ≤ 1
+    one true = omega arith
+    one false = omega arith
+
+heedings-every : (r : Reader) (P Q : Axiom → Type 0) → ((a : Axiom) → P a → Q a) → (xs : List Statement) → Every P (bodies xs) → Every Q (bodies (heedings r xs))
+unfolding heedings
+heedings-every r P Q f [] w = tt
+heedings-every r P Q f (x ∷ xs) w = go (heeded r x) (heedings-every r P Q f xs (w .1))
+  where
+    go : (b : Bool) → Every Q (bodies (from xs λ y. only (heeded r y) y)) → Every Q (bodies (only b x ++ (from xs λ y. only (heeded r y) y)))
+    go true rest = (f (x .body) (w .0), rest)
+    go false rest = rest
+
+module _ (r : Reader) (s : List ℕ) (B : Book) (book : decode s ≡ accepted B) where
+  -- the book spoken of keeps to its own numbers
+  pub spoken-inside : Inside (spoken r B)
+  spoken-inside =
+      let i = accepted-inside s B book in
+      let l = i .limits in
+      let k = length (heedings r (B .statements)) in
+      record {
+        limits = record { classes-top = l .classes-top; roles-top = l .roles-top; individuals-top = l .individuals-top; concepts-top = l .concepts-top; statements-top = omega (arith, heedings-length r (B .statements), accepted-statements s B book, l .statements-top) };
+        concepts = λ c. concept-same (B .counts) k (concept B c) (i .concepts c);
+        statements = heedings-every r (Within (B .counts)) (Within (counting (B .counts) k)) (within-same (B .counts) k) (B .statements) (i .statements);
+      }
+
+  -- what a run works on: the book spoken of, or refusal 14 or 15
+  decoded-for : (decodeFor r s ≡ accepted (spoken r B)) ⊎ ((n : ℕ) × (decodeFor r s ≡ refused n))
+  unfolding decodeFor
+  decoded-for = go r (ap (spokenOf r) book)
+    where
+      table : (a b : Bool) (x y : Decoded) → x ≡ y → (pick a (refused 14) (pick b x (refused 15)) ≡ y) ⊎ ((n : ℕ) × (pick a (refused 14) (pick b x (refused 15)) ≡ refused n))
+      table true b x y q = inr (14, refl)
+      table false true x y q = inl q
+      table false false x y q = inr (15, refl)
+
+      go : (q : Reader) {x y : Decoded} → x ≡ y → (admitted q x ≡ y) ⊎ ((n : ℕ) × (admitted q x ≡ refused n))
+      go anyone e = inl e
+      go (reader k t) {x} {y} e = table (ltb 31 k) (eqb (length t) 1024) x y e
+
+  -- DEMAND 3 of a run that names a reader: it speaks of the book that holds only the statements that count
+  pub demand-for : (budget : ℕ) (ts es ps : List ℕ) → Demand (spoken r B) (outcomeFor r s budget ts es ps)
+  demand-for budget ts es ps = go decoded-for
+    where
+      go : (decodeFor r s ≡ accepted (spoken r B)) ⊎ ((n : ℕ) × (decodeFor r s ≡ refused n)) → Demand (spoken r B) (outcomeFor r s budget ts es ps)
+      go (inl q) = demand-of (decodeFor r s) budget ts es ps (spoken r B) q spoken-inside
+      go (inr q) = subst (λ (x : Decoded). Demand (spoken r B) (outcomeOf x budget ts es ps)) (sym (q .1)) (refused-demand (q .0) budget ts es ps (spoken r B))
+
+-- what is accepted for a reader is a book spoken of
+pub for-inside : (r : Reader) (s : List ℕ) (C : Book) → decodeFor r s ≡ accepted C → Inside C
+unfolding decodeFor
+for-inside r s C q = from-decoded (decode s) refl (from-admitted r q)
+  where
+    table : (a b : Bool) (x : Decoded) → pick a (refused 14) (pick b x (refused 15)) ≡ accepted C → x ≡ accepted C
+    table true b x e = absurd (let o : _≡_ {A = ℕ} 0 1 = cc in omega arith)
+    table false true x e = e
+    table false false x e = absurd (let o : _≡_ {A = ℕ} 0 1 = cc in omega arith)
+
+    from-admitted : (k : Reader) {x : Decoded} → admitted k x ≡ accepted C → x ≡ accepted C
+    from-admitted anyone e = e
+    from-admitted (reader k t) {x} e = table (ltb 31 k) (eqb (length t) 1024) x e
+
+    from-decoded : (x : Decoded) → decode s ≡ x → spokenOf r x ≡ accepted C → Inside C
+    from-decoded (refused n) e f = absurd (let o : _≡_ {A = ℕ} 0 1 = cc in omega arith)
+    from-decoded (accepted B) e f = subst Inside (let z : spoken r B ≡ C = cc in z) (spoken-inside r s B e)
+
+-- a run that names no reader takes all statements: it is the run of the book itself
+heedings-all : (xs : List Statement) → heedings anyone xs ≡ xs
+unfolding heedings heeded
+heedings-all [] = refl
+heedings-all (x ∷ xs) = ap (λ (l : List Statement). x ∷ l) (heedings-all xs)
+
+pub spoken-all : (s : List ℕ) (B : Book) → decode s ≡ accepted B → spoken anyone B ≡ B
+spoken-all s B book = ap (withStatements B) (heedings-all (B .statements)) ∙ ap (λ (n : ℕ). record { counts = counting (B .counts) n; concepts = B .concepts; statements = B .statements }) (accepted-statements s B book)
+
+pub decode-all : (s : List ℕ) → decodeFor anyone s ≡ decode s
+unfolding decodeFor
+decode-all s = go (decode s) refl
+  where
+    go : (x : Decoded) → decode s ≡ x → spokenOf anyone x ≡ x
+    go (refused n) q = refl
+    go (accepted B) q = ap accepted (spoken-all s B q)
+
+pub outcome-all : (s : List ℕ) (budget : ℕ) (ts es ps : List ℕ) → outcomeFor anyone s budget ts es ps ≡ outcome s budget ts es ps
+outcome-all s budget ts es ps = ap (λ (x : Decoded). outcomeOf x budget ts es ps) (decode-all s)
+
+-- refusals 14 and 15, in that order, on every book
+module _ (s : List ℕ) (k : ℕ) (table : List ℕ) where
+  pub decode-14 : 31 < k → decodeFor (reader k table) s ≡ refused 14
+  unfolding decodeFor
+  decode-14 l = rw (lt-ltb 31 k l) refl
+
+  pub decode-15 : k ≤ 31 → (length table ≡ 1024 → ⊥) → decodeFor (reader k table) s ≡ refused 15
+  unfolding decodeFor
+  decode-15 l m = rw (le-ltb 31 k l, ne-eqb (length table) 1024 m) refl
+
+  module _ (l : k ≤ 31) (m : length table ≡ 1024) where
+    pub decode-read : decodeFor (reader k table) s ≡ spokenOf (reader k table) (decode s)
+    unfolding decodeFor
+    decode-read = rw (le-ltb 31 k l, eq-eqb (length table) 1024 m) refl
+
+    -- a faulty book is refused for every reader
+    pub decode-fault : (n : ℕ) → decode s ≡ refused n → decodeFor (reader k table) s ≡ refused n
+    decode-fault n e = decode-read ∙ ap (spokenOf (reader k table)) e
+
+    -- the end and the lists are those of the book with the unreadable statements left out
+    pub left-out : (t : List ℕ) (B : Book) → decode s ≡ accepted B → decode t ≡ accepted (spoken (reader k table) B) → (budget : ℕ) (ts es ps : List ℕ) → outcomeFor (reader k table) s budget ts es ps ≡ outcome t budget ts es ps
+    left-out t B e f budget ts es ps = ap (λ (x : Decoded). outcomeOf x budget ts es ps) (decode-read ∙ (ap (spokenOf (reader k table)) e ∙ sym f))
+
+-- source 0 is open to all, whatever its word
+pub shared-readable : (k : ℕ) (table : List ℕ) (x : Statement) → x .source ≡ 0 → readable k table x ≡ true
+unfolding readable
+shared-readable k table x e = rw (eq-eqb (x .source) 0 e) refl
+
+-- a loop over the statements takes them one by one
+pub heedings-next : (r : Reader) (x : Statement) (xs : List Statement) → heedings r (x ∷ xs) ≡ only (heeded r x) x ++ heedings r xs
+unfolding heedings
+heedings-next r x xs = refl
+
+-- NON-INTERFERENCE. Two accepted books with equal header counts apart from statements, equal concept records, and equal readable statements in equal
+-- order: for one reader and table, with equal budget and lists, a run of the one has the end and the lists of a run of the other.
+module _ (r : Reader) (s t : List ℕ) (B C : Book) (first : decode s ≡ accepted B) (second : decode t ≡ accepted C) (counts : SameCounts (B .counts) (C .counts)) (equal : heedings r (B .statements) ≡ heedings r (C .statements)) where
+  same-spoken : B .concepts ≡ C .concepts → spoken r B ≡ spoken r C
+  same-spoken e = λ i. record {
+    counts = record { classes = counts .classes i; roles = counts .roles i; individuals = counts .individuals i; concepts = counts .concepts i; statements = length (equal i) };
+    concepts = e i;
+    statements = equal i;
+  }
+
+  -- concepts that are equal as trees, which equal records are
+  pub same-outcomes : B .concepts ≡ C .concepts → (budget : ℕ) (ts es ps : List ℕ) → outcomeFor r s budget ts es ps ≡ outcomeFor r t budget ts es ps
+  unfolding decodeFor
+  same-outcomes e budget ts es ps = ap (λ (x : Decoded). outcomeOf (admitted r x) budget ts es ps) (ap (spokenOf r) first ∙ (ap accepted (same-spoken e) ∙ sym (ap (spokenOf r) second)))
+
+  pub no-trace-readable : conceptBytes s B ≡ conceptBytes t C → (budget : ℕ) (ts es ps : List ℕ) → outcomeFor r s budget ts es ps ≡ outcomeFor r t budget ts es ps
+  no-trace-readable e = same-outcomes (same-concepts s t B C first second counts e)
