@@ -7,7 +7,7 @@ import sys
 
 import book_format as f
 
-from . import conclusions, library, names, words
+from . import conclusions, library, names, readers, words
 from .packer import MOST_BYTES, Packer
 from .source import AT_FAULT, DONE, NOT_RUN, Source, Stop, decoded, read_bytes
 from .text import Writer, counted, summary
@@ -25,7 +25,7 @@ default-jdk-headless libowlapi-java). Imports are not fetched; they are counted 
 '''
 STATUSES = '''Exit status:
   0  done; for conclude: finished
-  1  the file is at fault: syntax, a limit of the book, with --strict an axiom that a book cannot hold;
+  1  the file is at fault: syntax, a limit of the book, with --strict an axiom that a book cannot hold, a file of readers;
      for show and clean: a refused book, for show also names that do not fit it
   2  wrong usage, a file that cannot be read or written, a program that cannot be run or prints something else,
      a library, Java or an OWL API that is not there
@@ -63,6 +63,14 @@ The program target/bin/saturate is run, which keeps at most 4,000 types and edge
 --budget the proved library is run instead, with lists of the size that is needed; `{library.BUILD}` builds it. So it is
 without --budget, where the library is built, for a register that may need more than 4,000 and at most 1,000,000, as
 `need` tells: with that figure as budget, which is never spent.
+
+With --reader the conclusions are those of the statements that one reader may read: the shared book's, and those of the
+workshops that his line in FILE.readers names. Nothing that he may not read changes what is printed of them; what standard
+error says of left out axioms and faults is about the whole file. The file has a line for each reader, at most 32 of them;
+# starts a comment:
+  inspector: :north south:workshop
+  visitor:
+The proved library draws the conclusions, with the budget that they need where no --budget is given.
 '''
 NEEDED = SYNTAXES + f'''
 The figure is worked out without a run, by the proved library; `{library.BUILD}` builds that. A run with a budget of at
@@ -197,6 +205,10 @@ def need(args):
 
 
 def conclude(args):
+    if args.reader is not None:
+        return conclude_for(args)
+    if args.readers:
+        raise Stop(NOT_RUN, '--readers says who may read what, for the one that --reader names')
     packer = packed(args.file, args.strict, MOST_BYTES if args.budget is None else None)
     data = packer.data()
     book = f.read(data)
@@ -205,6 +217,40 @@ def conclude(args):
     status, text = conclusions.write(run, book, len(data), packer.names(), budget)
     print(text, end='')
     return status
+
+
+def conclude_for(args):
+    """What one reader may conclude. The run is on the whole book; what is printed, and the budget, come from his part of it."""
+    if args.program:
+        raise Stop(NOT_RUN, '--reader takes the library: the program names no reader')
+    packer = packed(args.file, args.strict, None)
+    data, given = packer.data(), packer.names()
+    reader = chosen_reader(args.readers or re.sub(SUFFIX, '', args.file) + '.readers', args.reader, given)
+    part = readers.part(f.read(data), reader)
+    try:
+        budget = args.budget
+        if budget is None:
+            budget = min(library.figure(written(part))[1], library.MOST_BUDGET)
+        run = conclusions.run_library(data, part.counts, budget, reader)
+    except library.NotBuilt as missing:
+        raise Stop(NOT_RUN, str(missing)) from None
+    status, text = conclusions.write(run, part, len(data), given, budget, reader)
+    print(text, end='')
+    return status
+
+
+def written(book):
+    """The bytes of a book."""
+    return f.write(book.counts, [(kind, *fields) for kind, fields in book.concepts], [(kind, *fields) for kind, _, fields in book.statements], book.marks)
+
+
+def chosen_reader(path, name, given):
+    """The reader of a name, by the file that says who may read what."""
+    list_ = Source(path, decoded(path, read_bytes(path)))
+    try:
+        return readers.chosen(readers.read(list_.text, given), name)
+    except Fault as fault:
+        raise Stop(AT_FAULT, *list_.said(fault)) from None
 
 
 def needed_budget(data):
@@ -273,8 +319,10 @@ def arguments():
     made.add_argument('position', metavar='POSITION', type=position, nargs='?', help='which one, counted from 0')
     made.add_argument('--all', metavar='DIR', help='write each as DIR/POSITION.book')
     command('need', need, 'tells how many types and edges the conclusions of FILE can have at most, and the budget to give', NEEDED)
-    made = command('conclude', conclude, 'packs FILE, runs the book and prints what it concludes, told and derived apart',
-                   CONCLUDED).add_mutually_exclusive_group()
+    made = command('conclude', conclude, 'packs FILE, runs the book and prints what it concludes, told and derived apart', CONCLUDED)
+    made.add_argument('--reader', metavar='NAME', help='conclude what this reader may read')
+    made.add_argument('--readers', metavar='FILE.readers', help='who may read which workshop; FILE with .readers in place of its ending else')
+    made = made.add_mutually_exclusive_group()
     made.add_argument('--budget', metavar='N', type=budget, help='run the library, with a budget of N facts, up to 1000000')
     made.add_argument('--program', metavar='PATH', help='the program to run on the book (target/bin/saturate of this repository else)')
     return parser

@@ -15,7 +15,7 @@ NUMBER = '[0-9]{1,9}'
 CAUSES = {
     4: 'the book ends before a record is complete', 5: 'header bit 5 to 7, or a written count or source 0', 6: 'a count above its limit',
     7: 'an unknown kind', 8: 'a map that its kind does not have', 9: 'a number out of range', 10: 'bytes behind the last statement',
-    11: "more same pairs than the program's list holds (2,000 for saturate)",
+    11: "more same pairs than the program's list holds (2,000 for saturate)", 14: 'a reader above 31', 15: 'a table of another length than 1,024 words',
 }
 
 # the end's word, its numbers, and the listed facts, such as ('t', individual, class)
@@ -53,10 +53,12 @@ def read(output, counts):
     return Run(word, numbers, [(fact[0], *map(int, fact[1:])) for fact in facts])
 
 
-def run_library(data, counts, budget):
-    """The run of the library, with a pair list that has room for every pair of the book's individuals."""
+def run_library(data, counts, budget, reader=None):
+    """The run of the library, for a reader where one is given, with a pair list that has room for every pair of the book's
+    individuals."""
     individuals = counts[f.INDIVIDUALS]
-    got = library.saturate(data, budget, 2 * budget, 3 * budget, individuals * (individuals - 1))
+    rooms = 2 * budget, 3 * budget, individuals * (individuals - 1)
+    got = library.saturate_for(data, budget, *rooms, reader.number, reader.table) if reader else library.saturate(data, budget, *rooms)
     numbers = [got.type_count, got.edge_count, got.pair_count]
     if got.end != library.FINISHED:
         word = {library.CLASH: 'clash', library.SPENT: 'spent'}.get(got.end, 'refused')
@@ -106,47 +108,60 @@ def tally(types, edges, pairs):
     return ', '.join([counted(types, 'type'), counted(edges, 'edge'), counted(pairs, 'same pair')])
 
 
-def section(title, facts, names, outright=None):
+def named(fact, names):
+    """The names of a fact in its order: individual and class; role and ends; both of a pair."""
+    kinds = {'t': (f.INDIVIDUALS, f.CLASSES), 'e': (f.ROLES, f.INDIVIDUALS, f.INDIVIDUALS), 's': (f.INDIVIDUALS, f.INDIVIDUALS)}[fact[0]]
+    return [names.of(kind, n) for kind, n in zip(kinds, fact[1:])]
+
+
+def section(title, facts, names, outright=None, reader=None):
     """The lines of some facts under their title. A told fact has the workshops that say it; where the shared book says it,
-    it has none."""
+    it has none. For a reader they stand in the order of their names: numbers go by first mention, which may be in a statement
+    that he may not read."""
     yield f'# {title}: ' + tally(*(sum(fact[0] == letter for fact in facts) for letter in 'tes'))
-    for fact in facts:
+    rows = [('tes'.index(fact[0]), named(fact, names), fact) for fact in facts]
+    if reader:
+        rows = sorted((letter, sorted(words) if fact[0] == 's' else words, fact) for letter, words, fact in rows)
+    for _, words, fact in rows:
         sources = outright[fact] if outright else {0}
-        whose = '' if 0 in sources else sourced(names, sorted(sources))
+        order = [n for n in reader.sources if n in sources] if reader else sorted(sources)
+        whose = '' if 0 in sources else sourced(names, order)
         if fact[0] == 't':
-            yield f'ClassAssertion({whose}{names.of(f.CLASSES, fact[2])} {names.of(f.INDIVIDUALS, fact[1])})'
+            yield f'ClassAssertion({whose}{words[1]} {words[0]})'
         elif fact[0] == 'e':
-            ends = ' '.join(names.of(f.INDIVIDUALS, i) for i in fact[2:])
-            yield f'ObjectPropertyAssertion({whose}{names.of(f.ROLES, fact[1])} {ends})'
+            yield f'ObjectPropertyAssertion({whose}{" ".join(words)})'
         else:
-            yield f'SameIndividual({whose}{" ".join(names.of(f.INDIVIDUALS, i) for i in fact[1:])})'
+            yield f'SameIndividual({whose}{" ".join(words)})'
 
 
-def advice(counts, budget):
+def advice(counts, budget, reader=None):
     """How a run with a larger budget is had: with the bound of the book's counts, or the largest there is."""
     classes, roles, individuals = counts[:3]
     enough = min(individuals * classes + roles * individuals ** 2, library.MOST_BUDGET)
     if budget >= enough:
         return 'There is no larger budget.'
-    return f'With a larger one, by the proved library: tools/register conclude --budget {enough} FILE'
+    who = f' --reader {reader.name}' if reader else ''
+    return f'With a larger one, by the proved library: tools/register conclude --budget {enough}{who} FILE'
 
 
-def write(run, book, size, names, budget=None):
+def write(run, book, size, names, budget=None, reader=None):
     """(exit status, text) of a run of the program, or of the library with a budget: a document after finished, told and
-    derived apart, and a sentence after any other end."""
+    derived apart, and a sentence after any other end. Of a run for a reader the book is the part that he may read."""
     word, numbers, facts = run
     if word == 'finished':
         outright = told(book)
-        body = [*section('told', [x for x in facts if x in outright], names, outright),
-                *section('derived', [x for x in facts if x not in outright], names)]
-        return FINISHED, document(names, ['finished: ' + tally(*numbers)], body)
+        body = [*section('told', [x for x in facts if x in outright], names, outright, reader),
+                *section('derived', [x for x in facts if x not in outright], names, reader=reader)]
+        head = [f'for {reader.name}, who may read the shared book' + ''.join(f', {names.source(n)}' for n in reader.sources)] if reader else []
+        return FINISHED, document(names, ['finished: ' + tally(*numbers), *head], body)
     if word == 'clash':
         sizes = f'{counted(numbers[0], "type")} and {counted(numbers[1], "edge")}'
-        return CLASH, f'clash: no world fits this register; its smallest sets have {sizes}.\n'
+        which = f'what {reader.name} may read of this register' if reader else 'this register'
+        return CLASH, f'clash: no world fits {which}; its smallest sets have {sizes}.\n'
     if word == 'spent':
         which = "the program's budget (4,000 for saturate)" if budget is None else f'the budget of {budget:,}'
         return SPENT, (f'spent: the conclusions have more types and edges than {which}.\n'
-                       f'{advice(book.counts, budget or 0)}\n')
+                       f'{advice(book.counts, budget or 0, reader)}\n')
     if word == 'long':
         return REFUSED, f'long: the book has {size:,} bytes, more than the program reads (65,536 for saturate).\n'
     cause = CAUSES.get(numbers[0], 'a number that the program does not document')

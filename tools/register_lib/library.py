@@ -31,12 +31,22 @@ class NotBuilt(Exception):
     """Why the library cannot be called, and what builds it."""
 
 
-def saturate(book, budget, type_room, edge_room, pair_room):
-    """A run on the bytes of a book, with lists of so many entries."""
-    lists = [(ctypes.c_uint32 * room)() for room in (type_room, edge_room, pair_room)]
+def saturate(book, budget, type_room, edge_room, pair_room, fill=0):
+    """A run on the bytes of a book, with lists of so many entries, each `fill` at first."""
+    return run('zamoluvel_saturate', book, budget, (type_room, edge_room, pair_room), fill)
+
+
+def saturate_for(book, budget, type_room, edge_room, pair_room, reader, table, fill=0):
+    """A run for a reader, by number, with the words of his table."""
+    words = (ctypes.c_uint32 * len(table))(*table)
+    return run('zamoluvel_saturate_for', book, budget, (type_room, edge_room, pair_room), fill, reader, words, len(words))
+
+
+def run(function, book, budget, rooms, fill, *named):
+    lists = [(ctypes.c_uint32 * room)(*[fill] * room) if fill else (ctypes.c_uint32 * room)() for room in rooms]
     counts = [ctypes.c_uint32() for _ in range(3)]
     lent = [word for entries in lists for word in (entries, len(entries))]
-    end = called('zamoluvel_saturate', book, len(book), budget, *lent, *map(ctypes.byref, counts))
+    end = called(function, book, len(book), budget, *lent, *named, *map(ctypes.byref, counts))
     return Run(end, *(count.value for count in counts), *lists)
 
 
@@ -76,16 +86,23 @@ def small_book(position):
 def called(function, *args):
     """What a function of the library returns, on a thread with stack enough."""
     with ThreadPoolExecutor(1) as pool:
-        function = getattr(loaded(), function)
+        function = getattr(loaded(function), function)
         before = threading.stack_size(STACK)
         answer = pool.submit(function, *args)
         threading.stack_size(before)
         return answer.result()
 
 
+def loaded(function=None):
+    """The shared object, with the types of the header. One that was built before it had the function is not good enough."""
+    library = opened()
+    if function and not hasattr(library, function):
+        raise NotBuilt(f'the library has no {function}; `{BUILD}` builds it anew')
+    return library
+
+
 @functools.lru_cache(maxsize=None)
-def loaded():
-    """The shared object, with the types of the header."""
+def opened():
     try:
         library = ctypes.CDLL(str(linked()))
     except OSError as error:
@@ -94,16 +111,16 @@ def loaded():
     types = {
         'zamoluvel_figure': (number, ctypes.c_char_p, size, numbers),
         'zamoluvel_saturate': (number, ctypes.c_char_p, size, ctypes.c_uint64, *[numbers, size] * 3, *[numbers] * 3),
+        'zamoluvel_saturate_for': (number, ctypes.c_char_p, size, ctypes.c_uint64, *[numbers, size] * 3, number, numbers, size, *[numbers] * 3),
         'zamoluvel_named_part': (size, *[number] * 4),
         'zamoluvel_small_book': (size, ctypes.c_uint64, ctypes.c_char_p, size),
         'zamoluvel_check_rows': (number, ctypes.c_char_p, size, numbers, size, ctypes.POINTER(size)),
         'zamoluvel_write': (number, ctypes.c_char_p, size, ctypes.c_char_p, size, ctypes.POINTER(size)),
     }
     for name, (result, *args) in types.items():
-        if not hasattr(library, name):
-            raise NotBuilt(f'the library has no {name}; `{BUILD}` builds it anew')
-        function = getattr(library, name)
-        function.restype, function.argtypes = result, args
+        if hasattr(library, name):
+            function = getattr(library, name)
+            function.restype, function.argtypes = result, args
     return library
 
 

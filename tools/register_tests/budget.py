@@ -20,7 +20,7 @@ CHAIN = HEAD + 'TransitiveObjectProperty(:p)\n' + '\n'.join(f'ObjectPropertyAsse
                      f'runs of the library, which take {library.CC} and `{library.BUILD}`')
 class Library(FileCase):
     def setUp(self):
-        library.loaded.cache_clear()
+        library.opened.cache_clear()
 
     def test_chain(self):
         """400 individuals under a transitive role: 79,800 edges, with a budget of as many and no less."""

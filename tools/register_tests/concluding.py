@@ -11,7 +11,7 @@ from register_lib import command, conclusions, library
 
 from .common import EXAMPLES, HEAD, PROGRAM, ROOT, STAND_IN, WORKED, FileCase, packed, register, some_book
 
-STATUS = {'clash': conclusions.CLASH}  # of an example; finished where it is not listed
+STATUS = {'clash': conclusions.CLASH, 'sessions': conclusions.CLASH}  # of an example; finished where it is not listed
 WORKED_OUTPUT = '''finished 3 8 2
 t 1 0
 t 2 0
@@ -96,7 +96,7 @@ class Conclusions(FileCase):
             self.assertEqual(register('conclude', '--budget', budget, EXAMPLES[0])[0], 2, budget)
         self.assertIn('not allowed with', register('conclude', '--budget', '5', '--program', PROGRAM, EXAMPLES[0])[2])
         with mock.patch.object(library, 'ARCHIVE', pathlib.Path('none', library.ARCHIVE.name)):
-            library.loaded.cache_clear()
+            library.opened.cache_clear()
             status, out, err = register('conclude', '--budget', '5', EXAMPLES[0])
             self.assertEqual((status, out), (2, ''))
             self.assertRegex(err, r'^the library target/staticlib/lib\w+\.a is not built; `rt staticlib \w+` builds it, ')
