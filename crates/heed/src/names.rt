@@ -1,0 +1,24 @@
+// What a run names: a reader, if `named`, for whom a table is lent.
+ghost use Rattle.heed.specs.Names.{Fault};
+
+pub struct Names {
+    pub named: bool,
+    pub reader: u32,
+}
+
+// The refusal of a reader or of his table, 14 or 15; 0 where there is none.
+pub fn fault(names: Names, table: &[u32]) -> u32
+    ensures { λ n. ⌜ Fault names (now (table .entry)) n ⌝ }
+{
+    let named = names.named;
+    if !named {
+        return 0;
+    }
+    if names.reader > 31 {
+        return 14;
+    }
+    if table.len() != 1024 {
+        return 15;
+    }
+    0
+}
