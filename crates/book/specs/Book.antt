@@ -18,6 +18,7 @@ use Rattle.book.specs.Header.{counting, header}
 use Rattle.book.specs.Concept.{concept}
 use Rattle.book.specs.Statement.{statement, bodies}
 use Rattle.book.specs.Tree.{Concept, treeOf}
+use Rattle.book.specs.Bytes.{headerBytes, statementsBytes}
 
 pub record Book : Type 0 where
   pub counts : Counts
@@ -76,6 +77,10 @@ conceptOffset s k = behind (onward (header s 0) λ h at. concepts h k s at)
 -- the bytes of the concept records
 unfoldable pub conceptBytes : List ℕ → Book → List ℕ
 conceptBytes s b = slice (conceptOffset s 0) (conceptOffset s (b .counts .concepts)) s
+
+-- THE BYTES of a book with other statements: the header with their number, the concept records as they stand, the statements
+unfoldable pub restated : List ℕ → Book → List Statement → List ℕ
+restated s b xs = headerBytes (counting (b .counts) (length xs)) ++ (conceptBytes s b ++ statementsBytes xs)
 
 -- what the check answers
 abbrev pub checkOf : List ℕ → Decoded → Checked

@@ -10,21 +10,18 @@ use lib.Dec.{ltb, eqb}
 use borrow.Author.Tests.{eq-eqb, ne-eqb, lt-ltb, le-ltb}
 use Rattle.book.specs.Read.{pick}
 use Rattle.book.specs.Header.{counting, SameCounts}
-use Rattle.book.specs.Tree.{Concept, Concepts, Top, Bot, Atomic, Nominal, SelfRestriction, Not, And, Or, Some, All, Min, Max, none, more}
-use Rattle.book.specs.Statement.{bodies}
-use Rattle.book.specs.Book.{Book, withStatements, Decoded, refused, accepted, decode, conceptBytes}
-use Rattle.book.specs.Within.{Every, Within}
-use Rattle.book.specs.declared.header.Counts.{Counts}
-use Rattle.book.specs.declared.statement.Axiom.{Axiom}
+use Rattle.book.specs.Book.{Book, withStatements, Decoded, refused, accepted, decode, conceptBytes, restated}
+use Rattle.book.specs.Within.{Every, StatementWithin}
 use Rattle.book.specs.declared.statement.Statement.{Statement}
-use Rattle.book.proofs.Accepted.{within-same, accepted-statements}
+use Rattle.book.proofs.Accepted.{record-same, accepted-limits, accepted-statements, accepted-records}
 use Rattle.book.proofs.Equal.{same-concepts}
-use Rattle.rules.specs.Brought.{concept, from}
+use Rattle.book.proofs.Restated.{restated-decodes}
+use Rattle.rules.specs.Brought.{from}
 use Rattle.rules.specs.Lists.{only}
 use Rattle.rules.specs.Ends.{Refused, Clash, Finished, untouched, outcomeOf, outcome}
 use Rattle.rules.specs.Demand.{Clashed, Demand}
 use Rattle.rules.specs.Spoken.{Reader, anyone, reader, readable, heeded, heedings, spoken, spokenOf, admitted, decodeFor, outcomeFor}
-use Rattle.rules.proofs.Inside.{ConceptIn, ConceptsIn, Inside, accepted-inside}
+use Rattle.rules.proofs.Inside.{Inside, accepted-inside}
 use Rattle.rules.proofs.Demand.{demand-of}
 
 -- a refused run says nothing of worlds
@@ -54,28 +51,7 @@ module _ (n budget : ℕ) (ts es ps : List ℕ) where
         plain-unlisted = λ plain t e p q. not-finished t e p q;
       }
 
--- what keeps to the counts does so whatever the number of statements
-module _ (h : Counts) (k : ℕ) where
-  mutual
-    concept-same : (e : Concept) → ConceptIn h e → ConceptIn (counting h k) e
-    concept-same Top w = tt
-    concept-same Bot w = tt
-    concept-same (Atomic c) w = w
-    concept-same (Nominal b) w = w
-    concept-same (SelfRestriction r) w = w
-    concept-same (Not e) w = concept-same e w
-    concept-same (And es) w = concepts-same es w
-    concept-same (Or es) w = concepts-same es w
-    concept-same (Some r e) w = (w .0, concept-same e (w .1))
-    concept-same (All r e) w = (w .0, concept-same e (w .1))
-    concept-same (Min n r e) w = (w .0, concept-same e (w .1))
-    concept-same (Max n r e) w = (w .0, concept-same e (w .1))
-
-    concepts-same : (es : Concepts) → ConceptsIn h es → ConceptsIn (counting h k) es
-    concepts-same none w = tt
-    concepts-same (more e es) w = (concept-same e (w .0), concepts-same es (w .1))
-
-heedings-length : (r : Reader) (xs : List Statement) → length (heedings r xs) ≤ length xs
+pub heedings-length : (r : Reader) (xs : List Statement) → length (heedings r xs) ≤ length xs
 unfolding heedings
 heedings-length r [] = omega arith
 heedings-length r (x ∷ xs) = omega (arith, length-append (only (heeded r x) x) (from xs λ y. only (heeded r y) y), one (heeded r x), heedings-length r xs)
@@ -84,27 +60,30 @@ heedings-length r (x ∷ xs) = omega (arith, length-append (only (heeded r x) x)
     one true = omega arith
     one false = omega arith
 
-heedings-every : (r : Reader) (P Q : Axiom → Type 0) → ((a : Axiom) → P a → Q a) → (xs : List Statement) → Every P (bodies xs) → Every Q (bodies (heedings r xs))
+pub heedings-every : (r : Reader) (P Q : Statement → Type 0) → ((x : Statement) → P x → Q x) → (xs : List Statement) → Every P xs → Every Q (heedings r xs)
 unfolding heedings
 heedings-every r P Q f [] w = tt
 heedings-every r P Q f (x ∷ xs) w = go (heeded r x) (heedings-every r P Q f xs (w .1))
   where
-    go : (b : Bool) → Every Q (bodies (from xs λ y. only (heeded r y) y)) → Every Q (bodies (only b x ++ (from xs λ y. only (heeded r y) y)))
-    go true rest = (f (x .body) (w .0), rest)
+    go : (b : Bool) → Every Q (from xs λ y. only (heeded r y) y) → Every Q (only b x ++ (from xs λ y. only (heeded r y) y))
+    go true rest = (f x (w .0), rest)
     go false rest = rest
 
 module _ (r : Reader) (s : List ℕ) (B : Book) (book : decode s ≡ accepted B) where
-  -- the book spoken of keeps to its own numbers
+  -- the statements that count are no more than a book has, and keep to its counts
+  few : length (heedings r (B .statements)) ≤ 4096
+  few = omega (arith, heedings-length r (B .statements), accepted-statements s B book, accepted-limits s B book .statements-top)
+
+  within : Every (StatementWithin (spoken r B .counts)) (heedings r (B .statements))
+  within = heedings-every r (StatementWithin (B .counts)) (StatementWithin (spoken r B .counts)) (record-same (B .counts) (length (heedings r (B .statements)))) (B .statements) (accepted-records s B book)
+
+  -- the book spoken of as bytes: the unreadable statements left out
+  pub spoken-bytes : decode (restated s B (heedings r (B .statements))) ≡ accepted (spoken r B)
+  spoken-bytes = restated-decodes s B book (heedings r (B .statements)) few within
+
+  -- so it keeps to its own numbers
   pub spoken-inside : Inside (spoken r B)
-  spoken-inside =
-      let i = accepted-inside s B book in
-      let l = i .limits in
-      let k = length (heedings r (B .statements)) in
-      record {
-        limits = record { classes-top = l .classes-top; roles-top = l .roles-top; individuals-top = l .individuals-top; concepts-top = l .concepts-top; statements-top = omega (arith, heedings-length r (B .statements), accepted-statements s B book, l .statements-top) };
-        concepts = λ c. concept-same (B .counts) k (concept B c) (i .concepts c);
-        statements = heedings-every r (Within (B .counts)) (Within (counting (B .counts) k)) (within-same (B .counts) k) (B .statements) (i .statements);
-      }
+  spoken-inside = accepted-inside (restated s B (heedings r (B .statements))) (spoken r B) spoken-bytes
 
   -- what a run works on: the book spoken of, or refusal 14 or 15
   decoded-for : (decodeFor r s ≡ accepted (spoken r B)) ⊎ ((n : ℕ) × (decodeFor r s ≡ refused n))
@@ -185,9 +164,9 @@ module _ (s : List ℕ) (k : ℕ) (table : List ℕ) where
     pub decode-fault : (n : ℕ) → decode s ≡ refused n → decodeFor (reader k table) s ≡ refused n
     decode-fault n e = decode-read ∙ ap (spokenOf (reader k table)) e
 
-    -- the end and the lists are those of the book with the unreadable statements left out
-    pub left-out : (t : List ℕ) (B : Book) → decode s ≡ accepted B → decode t ≡ accepted (spoken (reader k table) B) → (budget : ℕ) (ts es ps : List ℕ) → outcomeFor (reader k table) s budget ts es ps ≡ outcome t budget ts es ps
-    left-out t B e f budget ts es ps = ap (λ (x : Decoded). outcomeOf x budget ts es ps) (decode-read ∙ (ap (spokenOf (reader k table)) e ∙ sym f))
+    -- the end and the lists are those of the book with the unreadable statements left out, as bytes
+    pub left-out : (B : Book) → decode s ≡ accepted B → (budget : ℕ) (ts es ps : List ℕ) → outcomeFor (reader k table) s budget ts es ps ≡ outcome (restated s B (heedings (reader k table) (B .statements))) budget ts es ps
+    left-out B e budget ts es ps = ap (λ (x : Decoded). outcomeOf x budget ts es ps) (decode-read ∙ (ap (spokenOf (reader k table)) e ∙ sym (spoken-bytes (reader k table) s B e)))
 
 -- source 0 is open to all, whatever its word
 pub shared-readable : (k : ℕ) (table : List ℕ) (x : Statement) → x .source ≡ 0 → readable k table x ≡ true

@@ -1,7 +1,6 @@
 -- A header with another statement count: all but its last two bytes stay.
 use Prim.Native.Nat.{ℕ, _+_, _*_, _-_, _/_, _%_, _≤_}
 use native.Mathlib.Omega.{arith}
-use native.Mathlib.Decide.{ℕ-discrete}
 use mathlib.Core.Path.{_≡_, refl, sym, ap, ap₂, _∙_}
 use mathlib.Core.Bool.{Bool, true, false}
 use mathlib.Core.List.{List, [], _∷_, _++_}
@@ -39,16 +38,6 @@ header-front h m d =
     let q : count m ≡ put m = ap (λ (b : Bool). pick b gap (put m)) (ne-eqb m 0 d) in
     let places : countPlaces (counting h m) ≡ four h ++ (put m ∷ gs) = ap (λ (p : Place). four h ++ (p ∷ gs)) q in
     ap₂ (λ (a : ℕ) (b : List ℕ). a ∷ b) (ap mapOf places ∙ map-append (four h) (put m ∷ gs) (put 1 ∷ []) refl) (ap bytesOf places ∙ bytes-append (four h) (put m ∷ gs))
-
--- so its length stays, while the count does not fall to 0
-pub header-length : (h : Counts) (m : ℕ) → (m ≡ 0 → h .statements ≡ 0) → (h .statements ≡ 0 → m ≡ 0) → length (headerBytes (counting h m)) ≡ length (headerBytes h)
-header-length h m f g = go (ℕ-discrete m 0)
-  where
-    go : Dec (m ≡ 0) → length (headerBytes (counting h m)) ≡ length (headerBytes h)
-    go (yes e) = ap (λ (n : ℕ). length (headerBytes (counting h n))) (e ∙ sym (f e))
-    go (no d) =
-        ap length (header-front h m d)
-        ∙ (length-append (frontBytes h) (twoOf m) ∙ (sym (length-append (frontBytes h) (twoOf (h .statements))) ∙ sym (ap length (header-front h (h .statements) (λ z. d (g z))))))
 
 pub header-recounts : (h : Counts) (m : ℕ) → (m ≡ 0 → h .statements ≡ 0) → (h .statements ≡ 0 → m ≡ 0) → recounted (headerBytes h) m ≡ headerBytes (counting h m)
 unfolding recounted

@@ -9,9 +9,9 @@ use Rattle.book.specs.Table.{statementAllows}
 use Rattle.book.specs.Header.{header}
 use Rattle.book.specs.Statement.{statementStart, pathOf, axiomOf, statementRest, statement}
 use Rattle.book.specs.Bytes.{headerBytes, statementBytes, statementsBytes, repeats}
-use Rattle.book.specs.Book.{concepts, book, decode, conceptOffset, conceptBytes}
+use Rattle.book.specs.Book.{concepts, book, decode, conceptOffset, conceptBytes, restated}
 use Rattle.writer.specs.declared.write.Answer.the-variants.{Written, Refused}
-use Rattle.writer.specs.Kept.{without, kept, cleaned}
+use Rattle.writer.specs.Kept.{without, kept}
 use Rattle.writer.specs.Written.{writtenOf, written, writes}
 
 -- a header of one role and two individuals, with a statement count
@@ -34,26 +34,26 @@ sameOf n = 12 ∷ 0xC0 ∷ 1 ∷ 0 ∷ 0 ∷ 1 ∷ 0 ∷ n ∷ 0 ∷ []
 
 -- the first of the repeats stays, in its place
 first-stays : written (counted 3 ++ (told ++ (same ++ told))) ≡ counted 2 ++ (told ++ same)
-unfolding written writtenOf cleaned kept without conceptBytes repeats headerBytes statementBytes statementsBytes conceptOffset decode book header concepts several statement statementStart statementRest axiomOf pathOf statementAllows roleOf fields fieldsFrom field byte twoBytes
+unfolding written writtenOf kept without restated conceptBytes repeats headerBytes statementBytes statementsBytes conceptOffset decode book header concepts several statement statementStart statementRest axiomOf pathOf statementAllows roleOf fields fieldsFrom field byte twoBytes
 first-stays = refl
 
 -- the same pair the other way round is no repeat
 turned-stays : written (counted 2 ++ (same ++ turned)) ≡ counted 2 ++ (same ++ turned)
-unfolding written writtenOf cleaned kept without conceptBytes repeats headerBytes statementBytes statementsBytes conceptOffset decode book header concepts several statement statementStart statementRest axiomOf pathOf statementAllows roleOf fields fieldsFrom field byte twoBytes
+unfolding written writtenOf kept without restated conceptBytes repeats headerBytes statementBytes statementsBytes conceptOffset decode book header concepts several statement statementStart statementRest axiomOf pathOf statementAllows roleOf fields fieldsFrom field byte twoBytes
 turned-stays = refl
 
 -- the same statement of other sources is no repeat; of one source it is
 both-stay : written (counted 5 ++ (same ++ (sameOf 1 ++ (sameOf 2 ++ (sameOf 1 ++ same))))) ≡ counted 3 ++ (same ++ (sameOf 1 ++ sameOf 2))
-unfolding written writtenOf cleaned kept without conceptBytes repeats headerBytes statementBytes statementsBytes conceptOffset decode book header concepts several statement statementStart statementRest axiomOf pathOf statementAllows roleOf fields fieldsFrom field byte twoBytes
+unfolding written writtenOf kept without restated conceptBytes repeats headerBytes statementBytes statementsBytes conceptOffset decode book header concepts several statement statementStart statementRest axiomOf pathOf statementAllows roleOf fields fieldsFrom field byte twoBytes
 both-stay = refl
 
 -- 14 bytes of 21: they fit in 14, and what is lent behind them stays; 13 are too few, and stay; a book that is cut off is refused by 4 first
 fits : writes (counted 2 ++ (same ++ same)) (7 ∷ 7 ∷ 7 ∷ 7 ∷ 7 ∷ 7 ∷ 7 ∷ 7 ∷ 7 ∷ 7 ∷ 7 ∷ 7 ∷ 7 ∷ 7 ∷ 7 ∷ []) ≡ record { answer = Written 14; out = counted 1 ++ (same ++ (7 ∷ [])) }
-unfolding writes written writtenOf cleaned kept without conceptBytes repeats headerBytes statementBytes statementsBytes conceptOffset decode book header concepts several statement statementStart statementRest axiomOf pathOf statementAllows roleOf fields fieldsFrom field byte twoBytes
+unfolding writes written writtenOf kept without restated conceptBytes repeats headerBytes statementBytes statementsBytes conceptOffset decode book header concepts several statement statementStart statementRest axiomOf pathOf statementAllows roleOf fields fieldsFrom field byte twoBytes
 fits = refl
 
 too-few : writes (counted 2 ++ (same ++ same)) (7 ∷ 7 ∷ 7 ∷ 7 ∷ 7 ∷ 7 ∷ 7 ∷ 7 ∷ 7 ∷ 7 ∷ 7 ∷ 7 ∷ 7 ∷ []) ≡ record { answer = Refused 12; out = 7 ∷ 7 ∷ 7 ∷ 7 ∷ 7 ∷ 7 ∷ 7 ∷ 7 ∷ 7 ∷ 7 ∷ 7 ∷ 7 ∷ 7 ∷ [] }
-unfolding writes written writtenOf cleaned kept without conceptBytes repeats headerBytes statementBytes statementsBytes conceptOffset decode book header concepts several statement statementStart statementRest axiomOf pathOf statementAllows roleOf fields fieldsFrom field byte twoBytes
+unfolding writes written writtenOf kept without restated conceptBytes repeats headerBytes statementBytes statementsBytes conceptOffset decode book header concepts several statement statementStart statementRest axiomOf pathOf statementAllows roleOf fields fieldsFrom field byte twoBytes
 too-few = refl
 
 cut-off : writes (counted 2 ++ same) [] ≡ record { answer = Refused 4; out = [] }

@@ -4,16 +4,15 @@ use mathlib.Core.List.{List, [], _++_}
 use lib.ListN.{length, drop}
 use lib.Dec.{ltb}
 use Rattle.book.specs.Read.{pick}
-use Rattle.book.specs.Bytes.{headerBytes, statementsBytes}
-use Rattle.book.specs.Book.{Book, decode, conceptBytes}
+use Rattle.book.specs.Book.{Book, decode, restated}
 use Rattle.rules.specs.Ends.{onDecoded}
 use Rattle.writer.specs.declared.write.Answer.{Answer}
 use Rattle.writer.specs.declared.write.Answer.the-variants.{Written, Refused}
-use Rattle.writer.specs.Kept.{kept, cleaned}
+use Rattle.writer.specs.Kept.{kept}
 
--- the header with the lowered count, the concept records as they stand, the statements that stay
+-- the statements that stay, under a header with their number and behind the concept records as they stand
 unfoldable pub writtenOf : List ℕ → Book → List ℕ
-writtenOf s B = headerBytes (cleaned B .counts) ++ (conceptBytes s B ++ statementsBytes (kept (B .statements)))
+writtenOf s B = restated s B (kept (B .statements))
 
 -- THE WRITTEN BOOK of an accepted one
 unfoldable pub written : List ℕ → List ℕ
