@@ -126,7 +126,7 @@ for-inside r s C q = from-decoded (decode s) refl (from-admitted r q)
     from-decoded (accepted B) e f = subst Inside (let z : spoken r B ≡ C = cc in z) (spoken-inside r s B e)
 
 -- a run that names no reader takes all statements: it is the run of the book itself
-heedings-all : (xs : List Statement) → heedings anyone xs ≡ xs
+pub heedings-all : (xs : List Statement) → heedings anyone xs ≡ xs
 unfolding heedings heeded
 heedings-all [] = refl
 heedings-all (x ∷ xs) = ap (λ (l : List Statement). x ∷ l) (heedings-all xs)

@@ -20,6 +20,7 @@ pub data Reader : Type 0 where
 unfoldable pub readable : ℕ → List ℕ → Statement → Bool
 readable r table x = eqb (x .source) 0 || eqb (getD table (x .source) 0 / 2 ^ r % 2) 1
 
+-- where no reader is named, all are
 abbrev pub readableBy : Reader → Statement → Bool
 readableBy anyone x = true
 readableBy (reader r table) x = readable r table x
