@@ -10,5 +10,7 @@ pub mod Chains
 pub mod Closing
 pub mod Wide
 pub mod Giving
+pub mod Fields
 pub mod Starts
+pub mod Records
 pub mod Starting

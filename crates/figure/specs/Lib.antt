@@ -4,5 +4,6 @@ pub mod MadeOne
 pub mod Outline
 pub mod Figure
 pub mod Wide
+pub mod Record
 pub mod Clause
 pub mod State

@@ -4,4 +4,5 @@ mod close; // the rules used until nothing is new
 mod gives; // what each concept gives
 pub mod need; // the open function
 mod queue; // the facts held, in the order in which they came to be
+mod record; // statement records by their bytes
 mod table; // the rules as a table, found by their premises
