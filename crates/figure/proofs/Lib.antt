@@ -8,6 +8,7 @@ pub mod Queueing
 pub mod Clauses
 pub mod Chains
 pub mod Closing
+pub mod Choosing
 pub mod Wide
 pub mod Giving
 pub mod Fields

@@ -7,3 +7,4 @@ pub mod Wide
 pub mod Record
 pub mod Clause
 pub mod State
+pub mod Cursor
