@@ -49,6 +49,10 @@ fn equivalent(left: u16, right: u16) -> Statement {
     (2, 0x30, vec![left, right])
 }
 
+fn disjoint(left: u16, right: u16) -> Statement {
+    (3, 0x30, vec![left, right])
+}
+
 fn inverse(role: u16, other: u16) -> Statement {
     (4, 0x03, vec![2 * role, 2 * other])
 }
@@ -56,6 +60,10 @@ fn inverse(role: u16, other: u16) -> Statement {
 fn path(roles: &[u16], above: u16) -> Statement {
     let map = [0x09, 0x0B, 0x0F][roles.len() - 1];
     (5, map, roles.iter().chain([&above]).map(|role| 2 * role).collect())
+}
+
+fn transitive(role: u16) -> Statement {
+    (6, 0x01, vec![2 * role])
 }
 
 fn domain(role: u16, concept: u16) -> Statement {
@@ -72,6 +80,12 @@ fn class_assertion(concept: u16, individual: u16) -> Statement {
 
 fn role_assertion(role: u16, first: u16, second: u16) -> Statement {
     (14, 0xC1, vec![2 * role, first, second])
+}
+
+/// The same statement, told by a source.
+fn sourced((kind, map, mut fields): Statement) -> Statement {
+    fields.push(7);
+    (kind, map | 0x100, fields)
 }
 
 /// A book of 256 classes, 64 roles and 512 individuals.
@@ -110,6 +124,55 @@ fn classes() -> Vec<Concept> {
 fn conjunctions() -> Vec<Concept> {
     let wide = |k: u16| and((k - 255..k).collect());
     classes().into_iter().chain((256..4096).map(wide)).collect()
+}
+
+/// Numbers that look random, the same in each run.
+struct Numbers(u64);
+
+impl Numbers {
+    fn below(&mut self, n: u16) -> u16 {
+        self.0 = self.0.wrapping_mul(6364136223846793005).wrapping_add(1442695040888963407);
+        ((self.0 >> 33) % u64::from(n)) as u16
+    }
+}
+
+/// The same with 255 parts anywhere below each conjunction.
+fn scattered() -> Vec<Concept> {
+    let mut numbers = Numbers(1);
+    let mut wide = |k: u16| and((0..255).map(|_| numbers.below(k)).collect());
+    classes().into_iter().chain((256..4096).map(&mut wide)).collect()
+}
+
+/// Class 0, and 4,095 conjunctions of one part, each of the one before it.
+fn nested() -> Vec<Concept> {
+    [atomic(0)].into_iter().chain((1..4096).map(|k| and(vec![k - 1]))).collect()
+}
+
+/// Classes 0 to 255, Nominal 0, and has-values of all roles in both polarities.
+fn has_values() -> Vec<Concept> {
+    classes().into_iter().chain([nominal(0)]).chain((257..4096).map(|k| some(k % 128, 256))).collect()
+}
+
+/// Statements of all kinds that say something of classes and roles, in any order.
+fn mixed() -> Vec<Statement> {
+    let mut numbers = Numbers(2);
+    let mut one = |_| {
+        let (c, d) = (numbers.below(4096), numbers.below(4096));
+        let (r, s, t, u) = (numbers.below(64), numbers.below(64), numbers.below(64), numbers.below(64));
+        match numbers.below(10) {
+            0 => subclass(c, d),
+            1 => equivalent(c, d),
+            2 => inverse(r, s),
+            3 => path(&[r], s),
+            4 => path(&[r, s], t),
+            5 => path(&[r, s, t], u),
+            6 => domain(r, c),
+            7 => range(r, c),
+            8 => class_assertion(c, d % 512),
+            _ => role_assertion(r, c % 512, d % 512),
+        }
+    };
+    (0..4096).map(&mut one).collect()
 }
 
 /// The next class from each class, the last first: whoever goes over the statements in their order finds one more class
@@ -182,26 +245,49 @@ fn main() {
     println!("| book | bytes | figure | check | with the figure | ratio |\n|---|---|---|---|---|---|");
     let classes = classes();
     let told = |concept| vec![class_assertion(concept, 0)];
-    row("a ladder of subclasses, the last first", &classes, &ladder(), runs);
-    let forward: Vec<_> = ladder().into_iter().rev().collect();
-    row("the same, the first first", &classes, &forward, runs);
+    let backward = |statements: &[Statement]| statements.iter().rev().cloned().collect::<Vec<_>>();
+    let both_orders = |name: &str, concepts: &[Concept], statements: &[Statement]| {
+        row(&format!("{name}, the last first"), concepts, statements, runs);
+        row("the same, the first first", concepts, &backward(statements), runs);
+    };
+    both_orders("a ladder of subclasses", &classes, &ladder());
     let pairs = filled((0..255).rev().map(|class| equivalent(class, class + 1)).chain(told(0)).collect());
-    row("a ladder of equivalent classes, the last first", &classes, &pairs, runs);
-    row("paths of three roles, the last first", &classes, &chains(), runs);
+    both_orders("a ladder of equivalent classes", &classes, &pairs);
+    both_orders("paths of three roles", &classes, &chains());
     let inverses = filled((0..63).rev().map(|role| inverse(role, role + 1)).chain([role_assertion(0, 0, 0)]).collect());
-    row("a ladder of inverse roles, the last first", &classes, &inverses, runs);
+    both_orders("a ladder of inverse roles", &classes, &inverses);
+    row("the same, each statement with a source", &classes, &inverses.iter().cloned().map(sourced).collect::<Vec<_>>(), runs);
     let (concepts, statements) = turns();
-    row("classes and roles in turn, the last first", &concepts, &statements, runs);
+    both_orders("classes and roles in turn", &concepts, &statements);
     let told_roles = (0..64).map(|role| role_assertion(role, 0, 0));
     let reached = filled(told_roles.chain((0..64).flat_map(|role| (0..64).map(move |k| domain(role, 4 * k)))).collect());
     row("domains", &classes, &reached, runs);
     row("4,096 class assertions", &classes, &filled((0..4096).map(|n| class_assertion(n % 256, n % 512)).collect()), runs);
     row("4,096 role assertions", &classes, &filled((0..4096).map(|n| role_assertion(n % 64, n % 512, n / 8)).collect()), runs);
+    row("4,096 disjoint classes", &classes, &filled((0..255).map(|class| disjoint(class, class + 1)).collect()), runs);
+    row("4,096 transitive roles", &[], &filled((0..64).map(transitive).collect()), runs);
+    let atomics: Vec<_> = (0..4096).map(|k| atomic(k % 256)).collect();
+    let far = (0..4095).map(|k: u16| equivalent(k, ((u32::from(k) * 1777 + 5) % 4096) as u16)).chain(told(0)).collect::<Vec<_>>();
+    row("4,096 Atomics, equivalent to others", &atomics, &far, runs);
+    let values = (0..4095).map(|k| equivalent(k % 256, k + 1)).chain(told(0)).collect::<Vec<_>>();
+    row("3,839 has-values, equivalent to classes", &has_values(), &values, runs);
     let wide = conjunctions();
+    let both = |concept| vec![class_assertion(concept, 0), domain(0, concept), role_assertion(0, 0, 0)];
+    let late = |class, concept| vec![role_assertion(0, 0, 0), domain(0, concept), subclass(class, concept)];
     row("conjunctions of 255 parts, the last told", &wide, &told(4095), runs);
-    row("the same, and the last reached", &wide, &[class_assertion(4095, 0), domain(0, 4095), role_assertion(0, 0, 0)], runs);
+    row("the same, and the last reached", &wide, &both(4095), runs);
+    row("the same, reached, and told by a class of theirs", &wide, &late(1, 4095), runs);
     row("the same, untold", &wide, &[], runs);
     let left = filled((0..4096).map(|_| subclass(4095, 0)).collect());
     row("the same on the left of 4,096 subclass statements", &wide, &left, runs);
+    let takers = (0..4095).map(|n| subclass(n % 256, 4095 - n % 3840)).chain(told(0)).collect::<Vec<_>>();
+    row("the same on the right of 4,095", &wide, &takers, runs);
+    let scattered = scattered();
+    row("conjunctions of 255 parts of any numbers, told and reached", &scattered, &both(4095), runs);
+    row("the same, reached, and told by a class of theirs", &scattered, &late(1, 4095), runs);
+    let nested = nested();
+    row("4,095 conjunctions of one part, told and reached", &nested, &both(4095), runs);
+    row("the same, reached, and told by their class", &nested, &late(0, 4095), runs);
+    row("statements of all kinds over 4,096 has-values and classes", &has_values(), &mixed(), runs);
     row("no concept and no statement", &[], &[], runs);
 }

@@ -5,5 +5,5 @@ mod cursor; // which of the facts held is used next
 mod gives; // what each concept gives
 pub mod need; // the open function
 mod queue; // the facts held, in the order in which they came to be
-mod record; // statement records by their bytes
+mod record; // records by their bytes
 mod table; // the rules as a table, found by their premises

@@ -1,4 +1,4 @@
-// Statement records of an accepted book by their bytes: the check has read them already, so that a kind is known and each number is there.
+// Records of an accepted book by their bytes: the check has read them already, so that a kind is known and each number is there.
 ghost use mathlib.Core.Path.{_≡_};
 ghost use Prim.Native.Nat.{_+_, _*_, _≤_};
 ghost use lib.ListN.{length};
@@ -50,7 +50,7 @@ fn numbers_of(kind: u8, low: usize) -> usize
     2
 }
 
-// Where the record behind the one at `at` starts.
+// Where the statement record behind the one at `at` starts.
 pub fn next_at(book: &[u8], at: usize) -> usize
     requires { ⌜ nextAt (now book) at ≤ length (now book) ⌝ }
     ensures { λ r. ⌜ r ≡ nextAt (now (book .entry)) at ⌝ }
