@@ -24,7 +24,7 @@ extern "C" {
 #define ZAMOLUVEL_FINISHED 0u
 #define ZAMOLUVEL_CLASH 1u
 #define ZAMOLUVEL_SPENT 2u
-#define ZAMOLUVEL_REFUSED 100u /* plus the number of the refusal, 1 to 11 */
+#define ZAMOLUVEL_REFUSED 100u /* plus the number of the refusal, 1 to 11, 14 or 15 */
 
 /* Which list zamoluvel_named_part is asked for. */
 #define ZAMOLUVEL_EDGES 0u
@@ -57,6 +57,23 @@ extern "C" {
 uint32_t zamoluvel_saturate(const uint8_t *book, size_t book_len, uint64_t budget, uint32_t *types,
                             size_t types_len, uint32_t *edges, size_t edges_len, uint32_t *pairs,
                             size_t pairs_len, uint32_t *type_count, uint32_t *edge_count, uint32_t *pair_count);
+
+/* Runs a book for a reader: as zamoluvel_saturate would run the book without the statements that he may not read.
+ * Two books that differ in such statements alone have equal ends and lists for him. (How long a run takes is no part
+ * of that promise.)
+ *
+ *   reader            0 to 31
+ *   table, table_len  1,024 words, read only: bit `reader` of word s says that he may read source s. Source 0, the
+ *                     shared book, is open to all, whatever its word.
+ *
+ * All else as for zamoluvel_saturate; the table must not overlap with the lists or the counts. Further refusals, with
+ * the lists as they were, behind 1 to 3 and before those of the book: 14 the reader is above 31, 15 the table has
+ * another length. A fault in a statement that he may not read refuses the book for him too.
+ */
+uint32_t zamoluvel_saturate_for(const uint8_t *book, size_t book_len, uint64_t budget, uint32_t *types,
+                                size_t types_len, uint32_t *edges, size_t edges_len, uint32_t *pairs,
+                                size_t pairs_len, uint32_t reader, const uint32_t *table, size_t table_len,
+                                uint32_t *type_count, uint32_t *edge_count, uint32_t *pair_count);
 
 /* The part of a list that the facts of a run fill: so many entries of it, from the first on.
  *

@@ -6,3 +6,4 @@ pub mod Restated
 pub mod Examples
 pub mod Bytes
 pub mod Local
+pub mod Short

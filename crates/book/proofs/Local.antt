@@ -20,7 +20,7 @@ use Rattle.book.specs.Tree.{Concept, And, Or, more, nth, partTrees, tree
 use Rattle.book.specs.Book.{concepts}
 use Rattle.book.proofs.Parsing.{no-value, came, same-value, Goes, Forward, forward-give, forward-then, forward-test}
 use Rattle.book.proofs.field.Laws.{forward-byte, forward-two, forward-four}
-use Rattle.book.proofs.concept.Laws.{parts-read}
+use Rattle.book.proofs.concept.Laws.{start-known, parts-read}
 
 -- what stands at i, behind `at`, stands as far behind `to`
 abbrev pub across : ℕ → ℕ → ℕ → ℕ
@@ -231,7 +231,7 @@ module _ (h : Counts) (k : ℕ) (s : List ℕ) (at : ℕ) (l : at ≤ length s) 
     tree : (ts : List Concept) → treeOf s ts x ≡ treeOf t ts there
 
   record Told (x : ConceptExpr) (e : ℕ) : Type 0 where
-    goes : Goes 0 s at e
+    goes : Goes 2 s at e
     carried : (t : List ℕ) (to : ℕ) → across at to e ≤ length t → Agrees s t at e to → Carried t to x e
 
   -- the parts of the record one after the other: to₁, to₂ and to₃ are where those behind the first stand in t
@@ -247,7 +247,7 @@ module _ (h : Counts) (k : ℕ) (s : List ℕ) (at : ℕ) (l : at ≤ length s) 
       let f₃ = list .goes in
       let f₄ = last .forward s c n e (f₃ .1) w in
       record {
-        goes = (omega (arith, f₁ .0, f₂ .0, f₃ .0, f₄ .0), f₄ .1);
+        goes = (omega (arith, start-known s at st a x .goes .0, f₂ .0, f₃ .0, f₄ .0), f₄ .1);
         carried = λ t to m g.
             let to₁ = across at to a in
             let to₂ = across a to₁ b in
@@ -306,6 +306,21 @@ module _ (h : Counts) where
                 let then = k .carried t (across at to (b .1)) (omega (arith, z)) (narrow s t at e to g (b .1) (c .1) (omega (arith, f .0)) (omega (arith, o .1))) in
                 rw (first, then .read, ← then .tree (b .0)) (ap₂ value (o .0) z);
           }
+
+  -- each takes two bytes at least
+  pub concepts-long : (n : ℕ) (s : List ℕ) (at : ℕ) (ts : List Concept) (e : ℕ) → at ≤ length s → concepts h n s at ≡ value ts e → Goes (2 * n) s at e
+  unfolding concepts
+  concepts-long zero s at ts e l q = let o = same-value [] ts at e q in (omega (arith, o .1), omega (arith, o .1))
+  concepts-long (suc n) s at ts e l q = step (concepts-long n)
+    where
+      step : ((s : List ℕ) (at : ℕ) (ts : List Concept) (e : ℕ) → at ≤ length s → concepts h n s at ≡ value ts e → Goes (2 * n) s at e) → Goes (2 * suc n) s at e
+      step ih =
+          let b = came (concepts h n s at) _ ts e q in
+          let c = came (concept h n s (b .1)) _ ts e (b .3) in
+          let f = ih s at (b .0) (b .1) l (b .2) in
+          let g = told h n s (b .1) (f .1) (c .0) (c .1) (c .2) .goes in
+          let o = same-value (b .0 ++ (treeOf s (b .0) (c .0) ∷ [])) ts (c .1) e (c .3) in
+          (omega (arith, f .0, g .0, o .1), omega (arith, g .1, o .1))
 
   pub forward-concepts : (n : ℕ) → Forward (concepts h n)
   forward-concepts n = local-concepts n .forward

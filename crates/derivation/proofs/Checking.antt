@@ -19,6 +19,7 @@ use Rattle.book.specs.declared.statement.Statement.{Statement}
 use Rattle.book.proofs.reader.Laws.{turn-within}
 use Rattle.rules.specs.Rule.{some}
 use Rattle.tables.specs.Open.{bookOf, Open}
+use Rattle.tables.proofs.Open.{open-within}
 use Rattle.book.specs.Header.{Limits}
 use Rattle.book.specs.Read.{pick}
 use Rattle.book.specs.declared.statement.Axiom.the-variants.{SubClassOf, EquivalentClasses, DisjointClasses, InverseObjectProperties, SubObjectPropertyOf, TransitiveRole, SymmetricRole, FunctionalRole, InverseFunctionalRole, ObjectPropertyDomain, ObjectPropertyRange, SameIndividual, ClassAssertion, ObjectPropertyAssertion}
@@ -151,7 +152,7 @@ module _ (s O : List ℕ) (o : Open s (bookOf s .counts) O) (below : (x : ℕ) �
   unfolding clashFitsRow byClash premisesOf named
   clash-same =
       let i : length (statements B) ≡ B .counts .statements = accepted-axioms s B (o .whole) in
-      rw (i, clash-tried B top (disjoint-low o) (marks-low o) a b c (low (r .first)) (low (r .second)) (low (r .third))) refl
+      rw (i, clash-tried B top (disjoint-low o (bookOf s .statements) (open-within o)) (marks-low o) a b c (low (r .first)) (low (r .second)) (low (r .third))) refl
 
   -- the answers of `accept`
   row-late : earlier k r ≡ false → false ≡ accepts B l k

@@ -12,6 +12,7 @@ pub mod Orders
 pub mod Checking
 pub mod Leaves
 pub mod Pairing
+pub mod Putting
 pub mod Entering
 pub mod PairsOf
 pub mod Preparing

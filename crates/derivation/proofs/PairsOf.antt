@@ -48,7 +48,7 @@ module _ {s O : List ℕ} (L T J F : List ℕ) {h : Counts} (o : Open s h O) (kn
   brings-mark : (r a c : ℕ) → a < h .classes → any (h .concepts) (λ k. has T k a && markerAt r c k) ≡ bringsMark B a r c
   brings-mark r a c l =
       any-same (h .concepts) _ _ (λ k m. ap (λ (ks : List Marker). has T k a && some ks (isMarker r c)) (sym (known .leaf k m .markers)))
-      ∙ (brought-class o T (statements B) (open-within o) takers a l (marksAs r c) (and-unmarked r c)
+      ∙ (brought-class o (bookOf s .statements) T (statements B) (open-within o) takers a l (marksAs r c) (and-unmarked r c)
       ∙ (some-same _ _ (λ p. ap (λ (b : Bool). eqb (p .one) a && b) (markers-some (isMarker r c) (concept B (p .other)))) (from (statements B) (sidesBy B))
       ∙ sym (marks-sides B (λ x. eqb x a) (isMarker r c))))
 
@@ -162,7 +162,7 @@ module _ {s O : List ℕ} (L T J F : List ℕ) {h : Counts} (o : Open s h O) (kn
 
   clash-out : (a b : ℕ) (p : Pair) → PairLow h p → ((g : Pair → Bool) → g p ≡ true → some (disjoint B) g ≡ true) → not (eqb (p .one) (p .other)) ≡ true → some (functional B) (bothBring B a b p) ≡ true → Clash a b
   clash-out a b p low among differ e =
-      let w : Member RoleLow (bothBring B a b p) (functional B) = member RoleLow (bothBring B a b p) (functional B) (functional-low o) e in
+      let w : Member RoleLow (bothBring B a b p) (functional B) = member RoleLow (bothBring B a b p) (functional B) (functional-low o (bookOf s .statements) (open-within o)) e in
       go (w .it) (w .holds) (w .passes) (w .among)
     where
       go : (r : Role) → RoleLow r → bothBring B a b p r ≡ true → ((g : Role → Bool) → g r ≡ true → some (functional B) g ≡ true) → Clash a b
@@ -202,7 +202,7 @@ module _ {s O : List ℕ} (L T J F : List ℕ) {h : Counts} (o : Open s h O) (kn
 
       back : some (disjoint B) (pairTest a b) ≡ true → (has P a b || any (h .concepts) (λ k. bringsClash F J T L (h .concepts) k a b)) ≡ true
       back e =
-          let m : Member (PairLow h) (pairTest a b) (disjoint B) = member (PairLow h) (pairTest a b) (disjoint B) (disjoint-low o) e in
+          let m : Member (PairLow h) (pairTest a b) (disjoint B) = member (PairLow h) (pairTest a b) (disjoint B) (disjoint-low o (bookOf s .statements) (open-within o)) e in
           ⊎-elim
           (λ z. or-left (has P a b) _ (start ∙ m .among (λ p. eqb (p .one) a && eqb (p .other) b) z))
           (λ z. let q = and-both (not (eqb (m .it .one) (m .it .other))) _ z in or-right (has P a b) _ (show a b la lb (clash-out a b (m .it) (m .holds) (m .among) (q .0) (q .1))))

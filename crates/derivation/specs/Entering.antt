@@ -15,6 +15,8 @@ use Rattle.rules.specs.ToldSame.{sameBy, labels}
 use Rattle.tables.specs.Leaf.{Leaves}
 use Rattle.tables.specs.Open.{bookOf}
 use Rattle.tables.specs.Tables.{Blank, Pairs, With, Labelled, Labels, LabelsWith, takersBy, functionalsBy}
+use Rattle.said.specs.Said.{Said}
+use Rattle.said.specs.declared.layout.Relation.the-variants as relation
 use Rattle.derivation.specs.Accept.{statements}
 use Rattle.derivation.specs.Tables.{Starts}
 
@@ -24,6 +26,14 @@ pub record Rooms (h : Counts) (T J P F : List ℕ) : Type 0 where
   pub disjoint : h .classes * 8 ≤ length J
   pub pairs : h .classes * 8 ≤ length P
   pub functional : 8 ≤ length F
+
+-- the tables with what is said; K are the labels
+pub record WithSaid (h : Counts) (f : Said) (T J P F K T' J' P' F' K' : List ℕ) : Type 0 where
+  pub takers : With T (f .pairs relation.Takers) T'
+  pub disjoint : With J (f .pairs relation.Disjoint) J'
+  pub pairs : With P (f .pairs relation.Disjoint) P'
+  pub functional : With F (f .pairs relation.Functional) F'
+  pub labels : LabelsWith (h .individuals) K (f .same) K'
 
 -- what one statement adds; the leaves of the concepts are L, the labels K
 pub record Added (h : Counts) (L : List ℕ) (x : Axiom) (T J P F K T' J' P' F' K' : List ℕ) : Type 0 where

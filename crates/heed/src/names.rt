@@ -7,7 +7,7 @@ pub struct Names {
 }
 
 // The refusal of a reader or of his table, 14 or 15; 0 where there is none.
-pub fn fault(names: Names, table: &[u32]) -> u32
+pub fn fault(names: Names, table: &[u32]) -> u8
     ensures { λ n. ⌜ Fault names (now (table .entry)) n ⌝ }
 {
     let named = names.named;

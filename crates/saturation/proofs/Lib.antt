@@ -12,6 +12,7 @@ pub mod Clashes
 pub mod Sharing
 pub mod Telling
 pub mod Tells
+pub mod Adding
 pub mod Entering
 pub mod Asserting
 pub mod Ending

@@ -1,16 +1,18 @@
 // Words for the tables, as many as a book's counts ask for: a small book must not pay for clearing what it does not use.
 ghost use mathlib.Core.Path.{_≡_};
 ghost use mathlib.Core.Bool.{true};
-ghost use Prim.Native.Nat.{_+_, _-_, _*_, _≤_, _<_};
+ghost use Prim.Native.Nat.{_*_, _≤_};
 ghost use lib.ListN.{length};
 ghost use Rattle.book.specs.Reader.{rest};
-ghost use Rattle.rows.specs.Table.{base, Sized};
-ghost use Rattle.rules.specs.Ends.{outcome};
+ghost use Rattle.rows.specs.Table.{Sized};
 ghost use Rattle.tables.specs.Open.{bookOf, sizeOf, Open};
 ghost use Rattle.tables.specs.Tables.{Blank};
+ghost use Rattle.heed.specs.Names.{readerOf, Ready};
 ghost use Rattle.verdict.specs.Conclude.{came};
-ghost use Rattle.saturation.specs.Run.{Small, Enough};
-use super::run::run;
+ghost use Rattle.saturation.specs.Run.{heardBook, outcomeOn, Admitted, Small, rowsOf, Enough};
+use super::enter::Task;
+use super::run::draw;
+use super::run::read_off;
 use book::header::Counts;
 use tables::size::size_of;
 use tables::size::table_rows;
@@ -37,206 +39,140 @@ fn is_small(counts: Counts) -> bool
 // At most 64 rows of links.
 fn small(
     book: &[u8],
-    from: usize,
     offsets: &[usize],
-    counts: Counts,
-    budget: u32,
+    task: Task,
+    table: &[u32],
     types: &mut [u32],
     edges: &mut [u32],
     pairs: &mut [u32],
 ) -> End
-    requires { ⌜ Open (now book) counts (now offsets) ⌝ }
-    requires { ⌜ rest (now book) counts from ≡ bookOf (now book) .statements ⌝ }
-    requires { ⌜ (budget ≤ 1000000) × (3 * budget ≤ length (now edges)) × (2 * budget ≤ length (now types)) ⌝ }
-    requires { ⌜ Small counts ⌝ }
-    requires { ⌜ base (sizeOf counts) (sizeOf counts .fields - 1) + counts .classes ≤ 64 ⌝ }
-    ensures { λ r. ⌜ came r (now (types .exit)) (now (edges .exit)) (now (pairs .exit)) ≡ outcome (now (book .entry)) budget (now (types .entry)) (now (edges .entry)) (now (pairs .entry)) ⌝ }
+    requires { ⌜ Open (now book) (task .counts) (now offsets) ⌝ }
+    requires { ⌜ rest (now book) (task .counts) (task .from) ≡ bookOf (now book) .statements ⌝ }
+    requires { ⌜ Ready (task .names) (now table) ⌝ }
+    requires { ⌜ Admitted (task .budget) (now types) (now edges) ⌝ }
+    requires { ⌜ Small (task .counts) ⌝ }
+    requires { ⌜ rowsOf (task .counts) ≤ 64 ⌝ }
+    ensures { λ r. ⌜ came r (now (types .exit)) (now (edges .exit)) (now (pairs .exit)) ≡ outcomeOn (heardBook (readerOf (task .names) (now (table .entry))) (now (book .entry))) (task .budget) (now (types .entry)) (now (edges .entry)) (now (pairs .entry)) ⌝ }
 {
     let mut t = [0u64; 512];
-    let mut supers = [0u64; 64];
-    let mut takers = [0u64; 512];
-    let mut asserted = [0u64; 512];
-    let mut above = [0u64; 64];
-    let mut domains = [0u64; 64];
+    let mut says = [0u64; 1416];
     let mut chains = [0u8; 256];
     let mut labels = [0u32; 16];
-    let mut groups = [0u64; 128];
-    let mut p = [0u64; 128];
-    let mut disjoint = [0u64; 64];
-    let mut functional = [0u64; 8];
     let mut leaves = [0u32; 64];
-    run(
+    let mut p = [0u64; 128];
+    let used = draw(
         book,
-        from,
         offsets,
-        counts,
-        budget,
-        types,
-        edges,
-        pairs,
-        &mut t,
-        &mut supers,
-        &mut takers,
-        &mut asserted,
-        &mut above,
-        &mut domains,
+        task,
+        table,
+        &mut leaves,
+        &mut says,
         &mut chains,
         &mut labels,
-        &mut groups,
-        &mut p,
-        &mut disjoint,
-        &mut functional,
-        &mut leaves,
-    )
+        &mut t,
+    );
+    read_off(&t, task, &says, &leaves, &mut p, used, types, edges, pairs)
 }
 
 // As many rows of links as t has, and of all else as many as any book asks for.
 fn large(
     book: &[u8],
-    from: usize,
     offsets: &[usize],
-    counts: Counts,
-    budget: u32,
+    task: Task,
+    table: &[u32],
     types: &mut [u32],
     edges: &mut [u32],
     pairs: &mut [u32],
     t: &mut [u64],
 ) -> End
-    requires { ⌜ Open (now book) counts (now offsets) ⌝ }
-    requires { ⌜ rest (now book) counts from ≡ bookOf (now book) .statements ⌝ }
-    requires { ⌜ (budget ≤ 1000000) × (3 * budget ≤ length (now edges)) × (2 * budget ≤ length (now types)) ⌝ }
+    requires { ⌜ Open (now book) (task .counts) (now offsets) ⌝ }
+    requires { ⌜ rest (now book) (task .counts) (task .from) ≡ bookOf (now book) .statements ⌝ }
+    requires { ⌜ Ready (task .names) (now table) ⌝ }
+    requires { ⌜ Admitted (task .budget) (now types) (now edges) ⌝ }
     requires { ⌜ Blank (now t) ⌝ }
-    requires { ⌜ (base (sizeOf counts) (sizeOf counts .fields - 1) + counts .classes) * 8 ≤ length (now t) ⌝ }
-    ensures { λ r. ⌜ came r (now (types .exit)) (now (edges .exit)) (now (pairs .exit)) ≡ outcome (now (book .entry)) budget (now (types .entry)) (now (edges .entry)) (now (pairs .entry)) ⌝ }
+    requires { ⌜ rowsOf (task .counts) * 8 ≤ length (now t) ⌝ }
+    ensures { λ r. ⌜ came r (now (types .exit)) (now (edges .exit)) (now (pairs .exit)) ≡ outcomeOn (heardBook (readerOf (task .names) (now (table .entry))) (now (book .entry))) (task .budget) (now (types .entry)) (now (edges .entry)) (now (pairs .entry)) ⌝ }
 {
-    let mut supers = [0u64; 2048];
-    let mut takers = [0u64; 32768];
-    let mut asserted = [0u64; 32768];
-    let mut above = [0u64; 1024];
-    let mut domains = [0u64; 1024];
+    let mut says = [0u64; 75784];
     let mut chains = [0u8; 16384];
     let mut labels = [0u32; 512];
-    let mut groups = [0u64; 4096];
-    let mut p = [0u64; 4096];
-    let mut disjoint = [0u64; 2048];
-    let mut functional = [0u64; 8];
     let mut leaves = [0u32; 4096];
-    run(
+    let mut p = [0u64; 4096];
+    let used = draw(
         book,
-        from,
         offsets,
-        counts,
-        budget,
-        types,
-        edges,
-        pairs,
-        t,
-        &mut supers,
-        &mut takers,
-        &mut asserted,
-        &mut above,
-        &mut domains,
+        task,
+        table,
+        &mut leaves,
+        &mut says,
         &mut chains,
         &mut labels,
-        &mut groups,
-        &mut p,
-        &mut disjoint,
-        &mut functional,
-        &mut leaves,
-    )
+        t,
+    );
+    read_off(t, task, &says, &leaves, &mut p, used, types, edges, pairs)
 }
 
 // At most 2,048 rows of links.
 fn rows_in_cache(
     book: &[u8],
-    from: usize,
     offsets: &[usize],
-    counts: Counts,
-    budget: u32,
+    task: Task,
+    table: &[u32],
     types: &mut [u32],
     edges: &mut [u32],
     pairs: &mut [u32],
 ) -> End
-    requires { ⌜ Open (now book) counts (now offsets) ⌝ }
-    requires { ⌜ rest (now book) counts from ≡ bookOf (now book) .statements ⌝ }
-    requires { ⌜ (budget ≤ 1000000) × (3 * budget ≤ length (now edges)) × (2 * budget ≤ length (now types)) ⌝ }
-    requires { ⌜ base (sizeOf counts) (sizeOf counts .fields - 1) + counts .classes ≤ 2048 ⌝ }
-    ensures { λ r. ⌜ came r (now (types .exit)) (now (edges .exit)) (now (pairs .exit)) ≡ outcome (now (book .entry)) budget (now (types .entry)) (now (edges .entry)) (now (pairs .entry)) ⌝ }
+    requires { ⌜ Open (now book) (task .counts) (now offsets) ⌝ }
+    requires { ⌜ rest (now book) (task .counts) (task .from) ≡ bookOf (now book) .statements ⌝ }
+    requires { ⌜ Ready (task .names) (now table) ⌝ }
+    requires { ⌜ Admitted (task .budget) (now types) (now edges) ⌝ }
+    requires { ⌜ rowsOf (task .counts) ≤ 2048 ⌝ }
+    ensures { λ r. ⌜ came r (now (types .exit)) (now (edges .exit)) (now (pairs .exit)) ≡ outcomeOn (heardBook (readerOf (task .names) (now (table .entry))) (now (book .entry))) (task .budget) (now (types .entry)) (now (edges .entry)) (now (pairs .entry)) ⌝ }
 {
     let mut t = [0u64; 16384];
-    large(
-        book,
-        from,
-        offsets,
-        counts,
-        budget,
-        types,
-        edges,
-        pairs,
-        &mut t,
-    )
+    large(book, offsets, task, table, types, edges, pairs, &mut t)
 }
 
 // At most 16,384 rows of links.
 fn rows_of_some(
     book: &[u8],
-    from: usize,
     offsets: &[usize],
-    counts: Counts,
-    budget: u32,
+    task: Task,
+    table: &[u32],
     types: &mut [u32],
     edges: &mut [u32],
     pairs: &mut [u32],
 ) -> End
-    requires { ⌜ Open (now book) counts (now offsets) ⌝ }
-    requires { ⌜ rest (now book) counts from ≡ bookOf (now book) .statements ⌝ }
-    requires { ⌜ (budget ≤ 1000000) × (3 * budget ≤ length (now edges)) × (2 * budget ≤ length (now types)) ⌝ }
-    requires { ⌜ base (sizeOf counts) (sizeOf counts .fields - 1) + counts .classes ≤ 16384 ⌝ }
-    ensures { λ r. ⌜ came r (now (types .exit)) (now (edges .exit)) (now (pairs .exit)) ≡ outcome (now (book .entry)) budget (now (types .entry)) (now (edges .entry)) (now (pairs .entry)) ⌝ }
+    requires { ⌜ Open (now book) (task .counts) (now offsets) ⌝ }
+    requires { ⌜ rest (now book) (task .counts) (task .from) ≡ bookOf (now book) .statements ⌝ }
+    requires { ⌜ Ready (task .names) (now table) ⌝ }
+    requires { ⌜ Admitted (task .budget) (now types) (now edges) ⌝ }
+    requires { ⌜ rowsOf (task .counts) ≤ 16384 ⌝ }
+    ensures { λ r. ⌜ came r (now (types .exit)) (now (edges .exit)) (now (pairs .exit)) ≡ outcomeOn (heardBook (readerOf (task .names) (now (table .entry))) (now (book .entry))) (task .budget) (now (types .entry)) (now (edges .entry)) (now (pairs .entry)) ⌝ }
 {
     let mut t = [0u64; 131072];
-    large(
-        book,
-        from,
-        offsets,
-        counts,
-        budget,
-        types,
-        edges,
-        pairs,
-        &mut t,
-    )
+    large(book, offsets, task, table, types, edges, pairs, &mut t)
 }
 
 // As many rows as any book asks for.
 fn rows_of_any(
     book: &[u8],
-    from: usize,
     offsets: &[usize],
-    counts: Counts,
-    budget: u32,
+    task: Task,
+    table: &[u32],
     types: &mut [u32],
     edges: &mut [u32],
     pairs: &mut [u32],
 ) -> End
-    requires { ⌜ Open (now book) counts (now offsets) ⌝ }
-    requires { ⌜ rest (now book) counts from ≡ bookOf (now book) .statements ⌝ }
-    requires { ⌜ (budget ≤ 1000000) × (3 * budget ≤ length (now edges)) × (2 * budget ≤ length (now types)) ⌝ }
-    requires { ⌜ base (sizeOf counts) (sizeOf counts .fields - 1) + counts .classes ≤ 66435 ⌝ }
-    ensures { λ r. ⌜ came r (now (types .exit)) (now (edges .exit)) (now (pairs .exit)) ≡ outcome (now (book .entry)) budget (now (types .entry)) (now (edges .entry)) (now (pairs .entry)) ⌝ }
+    requires { ⌜ Open (now book) (task .counts) (now offsets) ⌝ }
+    requires { ⌜ rest (now book) (task .counts) (task .from) ≡ bookOf (now book) .statements ⌝ }
+    requires { ⌜ Ready (task .names) (now table) ⌝ }
+    requires { ⌜ Admitted (task .budget) (now types) (now edges) ⌝ }
+    requires { ⌜ rowsOf (task .counts) ≤ 66435 ⌝ }
+    ensures { λ r. ⌜ came r (now (types .exit)) (now (edges .exit)) (now (pairs .exit)) ≡ outcomeOn (heardBook (readerOf (task .names) (now (table .entry))) (now (book .entry))) (task .budget) (now (types .entry)) (now (edges .entry)) (now (pairs .entry)) ⌝ }
 {
     let mut t = [0u64; 531480];
-    large(
-        book,
-        from,
-        offsets,
-        counts,
-        budget,
-        types,
-        edges,
-        pairs,
-        &mut t,
-    )
+    large(book, offsets, task, table, types, edges, pairs, &mut t)
 }
 
 // Which size of tables a book asks for: 0 small, 1 to 3 by the rows of links.
@@ -264,42 +200,32 @@ fn wanted(counts: Counts) -> u32
 // frame of its own, and a small book does not walk over the largest.
 pub fn allot(
     book: &[u8],
-    from: usize,
     offsets: &[usize],
-    counts: Counts,
-    budget: u32,
+    task: Task,
+    table: &[u32],
     types: &mut [u32],
     edges: &mut [u32],
     pairs: &mut [u32],
     step: u32,
 ) -> End
-    requires { ⌜ Open (now book) counts (now offsets) ⌝ }
-    requires { ⌜ rest (now book) counts from ≡ bookOf (now book) .statements ⌝ }
-    requires { ⌜ (budget ≤ 1000000) × (3 * budget ≤ length (now edges)) × (2 * budget ≤ length (now types)) ⌝ }
-    ensures { λ r. ⌜ came r (now (types .exit)) (now (edges .exit)) (now (pairs .exit)) ≡ outcome (now (book .entry)) budget (now (types .entry)) (now (edges .entry)) (now (pairs .entry)) ⌝ }
+    requires { ⌜ Open (now book) (task .counts) (now offsets) ⌝ }
+    requires { ⌜ rest (now book) (task .counts) (task .from) ≡ bookOf (now book) .statements ⌝ }
+    requires { ⌜ Ready (task .names) (now table) ⌝ }
+    requires { ⌜ Admitted (task .budget) (now types) (now edges) ⌝ }
+    ensures { λ r. ⌜ came r (now (types .exit)) (now (edges .exit)) (now (pairs .exit)) ≡ outcomeOn (heardBook (readerOf (task .names) (now (table .entry))) (now (book .entry))) (task .budget) (now (types .entry)) (now (edges .entry)) (now (pairs .entry)) ⌝ }
 {
-    let size = wanted(counts);
+    let size = wanted(task.counts);
     if step < size {
-        return allot(
-            book,
-            from,
-            offsets,
-            counts,
-            budget,
-            types,
-            edges,
-            pairs,
-            step + 1,
-        );
+        return allot(book, offsets, task, table, types, edges, pairs, step + 1);
     }
     if size == 0 {
-        return small(book, from, offsets, counts, budget, types, edges, pairs);
+        return small(book, offsets, task, table, types, edges, pairs);
     }
     if size == 1 {
-        return rows_in_cache(book, from, offsets, counts, budget, types, edges, pairs);
+        return rows_in_cache(book, offsets, task, table, types, edges, pairs);
     }
     if size == 2 {
-        return rows_of_some(book, from, offsets, counts, budget, types, edges, pairs);
+        return rows_of_some(book, offsets, task, table, types, edges, pairs);
     }
-    rows_of_any(book, from, offsets, counts, budget, types, edges, pairs)
+    rows_of_any(book, offsets, task, table, types, edges, pairs)
 }

@@ -8,6 +8,9 @@ use Rattle.rows.specs.declared.table.Size.{Size}
 use Rattle.rules.specs.Fact.{Two, two}
 use Rattle.rules.specs.Lists.{gather, only, entries2, entries3, filled}
 use Rattle.rules.specs.Ends.{End, Finished, Clash, Spent, Refused, Outcome, cleared}
+use Rattle.said.specs.Layout.{part}
+use Rattle.said.specs.declared.layout.Layout.{Layout}
+use Rattle.said.specs.declared.layout.Relation.the-variants.{Functional}
 use Rattle.verdict.specs.declared.end.End.{End as Answer}
 use Rattle.verdict.specs.declared.end.End.the-variants.{Finished as finished, Clash as clash, Spent as spent, Refused as refused}
 use Rattle.verdict.specs.Verdict.{clashIn}
@@ -42,6 +45,6 @@ listed z t F ts es ps =
 abbrev pub finishing : Size → List ℕ → List ℕ → List ℕ → List ℕ → List ℕ → Outcome
 finishing z t F ts es ps = pick (ltb (length ps) (2 * length (samePairs z t F))) (cleared ts es ps (Refused 11)) (listed z t F ts es ps)
 
-unfoldable pub concluded : Size → List ℕ → List ℕ → List ℕ → ℕ → List ℕ → List ℕ → List ℕ → List ℕ → List ℕ → Outcome
-concluded z t T L n J F ts es ps =
-    pick (clashIn z t T L n J F) (cleared ts es ps (Clash (length (typesOf z t)) (length (allEdges z t)))) (finishing z t F ts es ps)
+unfoldable pub concluded : Layout → List ℕ → List ℕ → List ℕ → List ℕ → List ℕ → List ℕ → Outcome
+concluded l t S L ts es ps =
+    pick (clashIn l t S L) (cleared ts es ps (Clash (length (typesOf (l .size) t)) (length (allEdges (l .size) t)))) (finishing (l .size) t (part l Functional S) ts es ps)

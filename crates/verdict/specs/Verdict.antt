@@ -10,6 +10,9 @@ use Rattle.rows.specs.declared.table.Size.{Size}
 use Rattle.rows.specs.Table.{leads}
 use Rattle.rules.specs.Rule.{any, some}
 use Rattle.tables.specs.Leaf.{markerIn}
+use Rattle.said.specs.Layout.{part}
+use Rattle.said.specs.declared.layout.Layout.{Layout}
+use Rattle.said.specs.declared.layout.Relation.the-variants.{Functional, Disjoint, Takers}
 
 -- whether a number below n passes both tests
 abbrev pub meeting : ℕ → (ℕ → Bool) → (ℕ → Bool) → Bool
@@ -38,11 +41,11 @@ bringsMarker takers L n r c d = any n λ k. has takers k c && markerFor r d (get
 abbrev pub markerRow : Size → List ℕ → List ℕ → List ℕ → ℕ → ℕ → ℕ → ℕ → ℕ → Bool
 markerRow z t takers L n r m d i = any m λ c. leads z t (z .fields - 1) c i && bringsMarker takers L n r c d
 
--- the clash of a table: of classes; or of the markers of a role that is functional as named
-unfoldable pub clashIn : Size → List ℕ → List ℕ → List ℕ → ℕ → List ℕ → List ℕ → Bool
-clashIn z t takers L n dis fun =
-    rowsClash (z .individuals) (z .classes) dis true (λ c i. leads z t (z .fields - 1) c i)
-    || any (z .fields / 2 - 1) (λ r. has fun 0 (2 * r) && rowsClash (z .individuals) (z .classes) dis false (markerRow z t takers L n r (z .classes)))
+-- the clash of a table t, by the rows S of a layout and the leaves L of its concepts: of classes; or of the markers of a role that is functional as named
+unfoldable pub clashIn : Layout → List ℕ → List ℕ → List ℕ → Bool
+clashIn l t S L =
+    rowsClash (l .size .individuals) (l .size .classes) (part l Disjoint S) true (λ c i. leads (l .size) t (l .size .fields - 1) c i)
+    || any (l .size .fields / 2 - 1) (λ r. has (part l Functional S) 0 (2 * r) && rowsClash (l .size .individuals) (l .size .classes) (part l Disjoint S) false (markerRow (l .size) t (part l Takers S) L (l .concepts) r (l .size .classes)))
 
 -- the rows of v are those of u with, in row d, the numbers that pass f d
 pub record RowsWith (u : List ℕ) (f : ℕ → ℕ → Bool) (v : List ℕ) : Type 0 where

@@ -5,6 +5,7 @@ ghost use lib.ListN.{length, replicate};
 ghost use Rattle.rows.specs.Table.{Table};
 ghost use Rattle.rules.specs.Lists.{entries2, filled};
 ghost use Rattle.tables.specs.Tables.{Blank};
+ghost use Rattle.said.specs.Layout.{Placed, totalRows};
 ghost use Rattle.verdict.specs.Listing.{typesOf, allEdges};
 ghost use Rattle.verdict.specs.Conclude.{came, finishing, concluded};
 use super::end::End;
@@ -16,6 +17,9 @@ use super::list::list_types;
 use super::pair::same_pairs;
 use super::verdict::clash;
 use rows::table::Size;
+use said::layout::Layout;
+use said::layout::Relation;
+use said::layout::part_of;
 
 pub fn clear_all(types: &mut [u32], edges: &mut [u32], pairs: &mut [u32])
     ensures { λ _. ⌜ now (types .exit) ≡ replicate (length (now (types .entry))) 0 ⌝ }
@@ -60,29 +64,28 @@ fn finish(
 
 pub fn conclude(
     t: &[u64],
-    size: Size,
-    takers: &[u64],
+    layout: Layout,
+    says: &[u64],
     leaves: &[u32],
-    n: usize,
-    disjoint: &[u64],
-    functional: &[u64],
     p: &mut [u64],
     used: u32,
     types: &mut [u32],
     edges: &mut [u32],
     pairs: &mut [u32],
 ) -> End
-    requires { ⌜ Table size (now t) ⌝ }
+    requires { ⌜ Table (layout .size) (now t) ⌝ }
     requires { ⌜ Blank (now p) ⌝ }
-    requires { ⌜ (n ≤ length (now leaves)) × (n ≤ 4096) × (n * 8 ≤ length (now takers)) × (size .classes * 8 ≤ length (now disjoint)) × (8 ≤ length (now functional)) × (size .individuals * 8 ≤ length (now p)) ⌝ }
-    requires { ⌜ used ≡ length (typesOf size (now t)) + length (allEdges size (now t)) ⌝ }
-    requires { ⌜ (2 * length (typesOf size (now t)) ≤ length (now types)) × (3 * length (allEdges size (now t)) ≤ length (now edges)) ⌝ }
-    ensures { λ r. ⌜ came r (now (types .exit)) (now (edges .exit)) (now (pairs .exit)) ≡ concluded size (now (t .entry)) (now (takers .entry)) (now (leaves .entry)) n (now (disjoint .entry)) (now (functional .entry)) (now (types .entry)) (now (edges .entry)) (now (pairs .entry)) ⌝ }
+    requires { ⌜ Placed layout × (totalRows layout * 8 ≤ length (now says)) × (layout .concepts ≤ length (now leaves)) × (layout .size .individuals * 8 ≤ length (now p)) ⌝ }
+    requires { ⌜ used ≡ length (typesOf (layout .size) (now t)) + length (allEdges (layout .size) (now t)) ⌝ }
+    requires { ⌜ (2 * length (typesOf (layout .size) (now t)) ≤ length (now types)) × (3 * length (allEdges (layout .size) (now t)) ≤ length (now edges)) ⌝ }
+    ensures { λ r. ⌜ came r (now (types .exit)) (now (edges .exit)) (now (pairs .exit)) ≡ concluded layout (now (t .entry)) (now (says .entry)) (now (leaves .entry)) (now (types .entry)) (now (edges .entry)) (now (pairs .entry)) ⌝ }
 {
+    let size = layout.size;
     let count = list_types(types, t, size) as u32;
-    if clash(t, size, takers, leaves, n, disjoint, functional) {
+    if clash(t, layout, says, leaves) {
         clear_all(types, edges, pairs);
         return End::Clash(count, used - count);
     }
+    let functional = part_of(says, layout, Relation::Functional);
     finish(t, size, functional, p, used, count, types, edges, pairs)
 }

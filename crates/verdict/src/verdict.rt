@@ -6,6 +6,7 @@ ghost use lib.ListN.{length, getD};
 ghost use Rattle.rows.specs.Row.{has};
 ghost use Rattle.rows.specs.Table.{leads, Sized, Table};
 ghost use Rattle.rules.specs.Rule.{any};
+ghost use Rattle.said.specs.Layout.{Placed, totalRows};
 ghost use Rattle.verdict.specs.Verdict.{meeting, counting, rowClash, rowsClash, markerFor, markerRow, clashIn, RowsWith};
 use rows::row::compose;
 use rows::row::gather;
@@ -14,6 +15,9 @@ use rows::row::member;
 use rows::row::next;
 use rows::table::Size;
 use rows::table::rows_of;
+use said::layout::Layout;
+use said::layout::Relation;
+use said::layout::part_of;
 use tables::leaf::filler_in;
 use tables::leaf::is_marker;
 use tables::leaf::role_in;
@@ -209,23 +213,25 @@ fn markers_clash(
 }
 
 // The clash of a table: of the classes, or of markers.
-pub fn clash(
-    t: &[u64],
-    size: Size,
-    takers: &[u64],
-    leaves: &[u32],
-    n: usize,
-    disjoint: &[u64],
-    functional: &[u64],
-) -> bool
-    requires { ⌜ Table size (now t) ⌝ }
-    requires { ⌜ (n ≤ length (now leaves)) × (n ≤ 4096) × (n * 8 ≤ length (now takers)) ⌝ }
-    requires { ⌜ (size .classes * 8 ≤ length (now disjoint)) ⌝ }
-    requires { ⌜ (8 ≤ length (now functional)) ⌝ }
-    ensures { λ x. ⌜ x ≡ clashIn size (now (t .entry)) (now (takers .entry)) (now (leaves .entry)) n (now (disjoint .entry)) (now (functional .entry)) ⌝ }
+pub fn clash(t: &[u64], layout: Layout, says: &[u64], leaves: &[u32]) -> bool
+    requires { ⌜ Table (layout .size) (now t) ⌝ }
+    requires { ⌜ Placed layout × (totalRows layout * 8 ≤ length (now says)) × (layout .concepts ≤ length (now leaves)) ⌝ }
+    ensures { λ x. ⌜ x ≡ clashIn layout (now (t .entry)) (now (says .entry)) (now (leaves .entry)) ⌝ }
 {
+    let size = layout.size;
+    let disjoint = part_of(says, layout, Relation::Disjoint);
     if rows_clash(t, rows_of(size, class_field(size)), size, disjoint, true) {
         return true;
     }
-    markers_clash(t, size, takers, leaves, n, disjoint, functional)
+    let takers = part_of(says, layout, Relation::Takers);
+    let functional = part_of(says, layout, Relation::Functional);
+    markers_clash(
+        t,
+        size,
+        takers,
+        leaves,
+        layout.concepts,
+        disjoint,
+        functional,
+    )
 }

@@ -2,10 +2,12 @@
 ghost use mathlib.Core.Path.{_≡_};
 ghost use Rattle.book.specs.Book.{Book, accepted, decode};
 ghost use Rattle.rules.specs.Ends.{outcome};
+ghost use Rattle.rules.specs.Spoken.{reader as named, spoken, outcomeFor};
 ghost use Rattle.rules.specs.Demand.{Demand};
 ghost use Rattle.verdict.specs.Conclude.{endOf, came};
 ghost use Rattle.zamoluvel.specs.Run.{codeOf, typeCount, edgeCount, pairCount, filledEntries};
 use saturation::saturate::saturate;
+use saturation::saturate::saturate_for;
 use verdict::end::End;
 
 fn code_of(end: End) -> u32
@@ -93,6 +95,36 @@ fn entries_of(edge_count: u32, pair_count: u32, named: u32) -> usize
 }
 
 // The named part: so many entries from the first on of the edge list (named = 0) or of the pair list (named = 1), as a run with this code and these counts
+// `saturate_for`, the same way.
+#[no_mangle]
+pub extern "C" fn zamoluvel_saturate_for(
+    book: &[u8],
+    budget: u64,
+    types: &mut [u32],
+    edges: &mut [u32],
+    pairs: &mut [u32],
+    reader: u32,
+    table: &[u32],
+    type_count: &mut u32,
+    edge_count: &mut u32,
+    pair_count: &mut u32,
+) -> u32
+    ensures { λ r. ⌜ r ≡ codeOf (outcomeFor (named reader (now (table .entry))) (now (book .entry)) budget (now (types .entry)) (now (edges .entry)) (now (pairs .entry)) .end) ⌝ }
+    ensures { λ _. ⌜ now («type_count» .exit) ≡ typeCount (outcomeFor (named reader (now (table .entry))) (now (book .entry)) budget (now (types .entry)) (now (edges .entry)) (now (pairs .entry)) .end) ⌝ }
+    ensures { λ _. ⌜ now («edge_count» .exit) ≡ edgeCount (outcomeFor (named reader (now (table .entry))) (now (book .entry)) budget (now (types .entry)) (now (edges .entry)) (now (pairs .entry)) .end) ⌝ }
+    ensures { λ _. ⌜ now («pair_count» .exit) ≡ pairCount (outcomeFor (named reader (now (table .entry))) (now (book .entry)) budget (now (types .entry)) (now (edges .entry)) (now (pairs .entry)) .end) ⌝ }
+    ensures { λ _. ⌜ now (types .exit) ≡ outcomeFor (named reader (now (table .entry))) (now (book .entry)) budget (now (types .entry)) (now (edges .entry)) (now (pairs .entry)) .types ⌝ }
+    ensures { λ _. ⌜ now (edges .exit) ≡ outcomeFor (named reader (now (table .entry))) (now (book .entry)) budget (now (types .entry)) (now (edges .entry)) (now (pairs .entry)) .edges ⌝ }
+    ensures { λ _. ⌜ now (pairs .exit) ≡ outcomeFor (named reader (now (table .entry))) (now (book .entry)) budget (now (types .entry)) (now (edges .entry)) (now (pairs .entry)) .pairs ⌝ }
+    ensures { λ _. ⌜ ((B : Book) → decode (now (book .entry)) ≡ accepted B → Demand (spoken (named reader (now (table .entry))) B) (outcomeFor (named reader (now (table .entry))) (now (book .entry)) budget (now (types .entry)) (now (edges .entry)) (now (pairs .entry)))) ⌝ }
+{
+    let end = saturate_for(book, budget, types, edges, pairs, reader, table);
+    *type_count = types_of(end);
+    *edge_count = edges_of(end);
+    *pair_count = pairs_of(end);
+    code_of(end)
+}
+
 // left them. The list is the caller's, and so is the part.
 #[no_mangle]
 pub extern "C" fn zamoluvel_named_part(

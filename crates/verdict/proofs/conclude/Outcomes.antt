@@ -14,6 +14,9 @@ use Rattle.rules.specs.Ends.{Outcome}
 use Rattle.rules.proofs.Sums.{length-gather, sum-le}
 use Rattle.verdict.specs.declared.end.End.the-variants.{Finished as finished, Clash as clash, Refused as refused}
 use Rattle.tables.specs.Tables.{Blank}
+use Rattle.said.specs.Layout.{part}
+use Rattle.said.specs.declared.layout.Layout.{Layout}
+use Rattle.said.specs.declared.layout.Relation.the-variants.{Functional}
 use Rattle.verdict.specs.Verdict.{clashIn}
 use Rattle.verdict.specs.Pair.{pairIn, PairsWith}
 use Rattle.verdict.specs.Listing.{rowOf, pairsOf, typesOf, allEdges}
@@ -54,19 +57,19 @@ module _ (z : Size) (t F ts es ps : List ℕ) {us fs qs : List ℕ} where
       let f : used - count ≡ length (allEdges z t) = omega arith in
       rw (a, b, c, f, d, ← e, le-ltb _ _ l) refl
 
-module _ (z : Size) (t M L : List ℕ) (n : ℕ) (J F ts es ps : List ℕ) where
+module _ (l : Layout) (t S L ts es ps : List ℕ) where
   -- a clash stands
-  pub clash-outcome : {count used : ℕ} {us fs qs : List ℕ} {x : Bool} → x ≡ clashIn z t M L n J F → x ≡ true
-      → count ≡ length (typesOf z t) → used ≡ length (typesOf z t) + length (allEdges z t)
+  pub clash-outcome : {count used : ℕ} {us fs qs : List ℕ} {x : Bool} → x ≡ clashIn l t S L → x ≡ true
+      → count ≡ length (typesOf (l .size) t) → used ≡ length (typesOf (l .size) t) + length (allEdges (l .size) t)
       → us ≡ replicate (length ts) 0 → fs ≡ replicate (length es) 0 → qs ≡ replicate (length ps) 0
-      → came (clash count (used - count)) us fs qs ≡ concluded z t M L n J F ts es ps
+      → came (clash count (used - count)) us fs qs ≡ concluded l t S L ts es ps
   unfolding concluded
   clash-outcome {count} {used} x k d u a b c =
-      let f : used - count ≡ length (allEdges z t) = omega arith in
+      let f : used - count ≡ length (allEdges (l .size) t) = omega arith in
       rw (a, b, c, f, d, ← x, k) refl
 
   -- none stands; of the list of types only the length matters
-  pub calm-outcome : (vs : List ℕ) {o : Outcome} {x : Bool} → x ≡ clashIn z t M L n J F → x ≡ false → length vs ≡ length ts
-      → o ≡ finishing z t F vs es ps → o ≡ concluded z t M L n J F ts es ps
+  pub calm-outcome : (vs : List ℕ) {o : Outcome} {x : Bool} {F : List ℕ} → x ≡ clashIn l t S L → x ≡ false → F ≡ part l Functional S → length vs ≡ length ts
+      → o ≡ finishing (l .size) t F vs es ps → o ≡ concluded l t S L ts es ps
   unfolding concluded
-  calm-outcome vs x k e h = rw (← x, k, ← e) h
+  calm-outcome vs x k functional e h = rw (← x, k, ← functional, ← e) h

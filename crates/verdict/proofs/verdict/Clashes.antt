@@ -1,16 +1,19 @@
 -- Clashes of rows.
-use Prim.Native.Nat.{ℕ, _+_, _*_, _<_}
+use Prim.Native.Nat.{ℕ, _+_, _-_, _*_, _/_, _<_}
 use mathlib.Core.Path.{_≡_, refl, ap, _∙_}
-use mathlib.Core.Bool.{Bool, _&&_}
+use mathlib.Core.Bool.{Bool, true, false, _&&_}
 use mathlib.Core.List.{List}
 use native.Mathlib.Nat.{zero-add}
 use native.Mathlib.Omega.{arith}
 use lib.ListN.{replicate}
 use Rattle.rows.specs.Row.{has, Gathered}
 use Rattle.rows.specs.declared.table.Size.{Size}
-use Rattle.rows.specs.Table.{Sized}
+use Rattle.rows.specs.Table.{leads, Sized}
 use Rattle.rules.specs.Rule.{any}
-use Rattle.verdict.specs.Verdict.{meeting, counting, rowClash, rowsClash, RowsWith}
+use Rattle.said.specs.Layout.{part}
+use Rattle.said.specs.declared.layout.Layout.{Layout}
+use Rattle.said.specs.declared.layout.Relation.the-variants.{Functional, Disjoint, Takers}
+use Rattle.verdict.specs.Verdict.{meeting, counting, rowClash, rowsClash, markerRow, clashIn, RowsWith}
 use Rattle.verdict.proofs.verdict.Blank.{blank, row-taken}
 use Rattle.verdict.proofs.verdict.Searches.{any-same}
 
@@ -41,3 +44,19 @@ pub rows-clash-blank : {v : List ℕ} {M : ℕ → ℕ → Bool} (w : ℕ) (z : 
 rows-clash-blank {v} {M} w z dis own k p =
     rows-clash-same (z .individuals) (z .classes) dis own
     (λ d i l o. rw zero-add (p .rows d i (omega (arith, k .classes)) (omega (arith, k .individuals)) ∙ rw (blank w (d * 512 + i))))
+
+-- ---- the clash of a table, by the parts that it is looked for in: the disjoint pairs J, what takes a concept M, and the functional fields F
+
+module _ (l : Layout) (t S L : List ℕ) {J : List ℕ} {x : Bool} (disjoint : J ≡ part l Disjoint S)
+    (rows : x ≡ rowsClash (l .size .individuals) (l .size .classes) J true (λ c i. leads (l .size) t (l .size .fields - 1) c i)) where
+  -- of classes
+  pub clash-rows : x ≡ true → true ≡ clashIn l t S L
+  unfolding clashIn
+  clash-rows e = rw (← disjoint, ← rows, e) refl
+
+  -- none of classes: of markers
+  pub clash-markers : {M F : List ℕ} {y : Bool} → M ≡ part l Takers S → F ≡ part l Functional S → x ≡ false
+      → y ≡ any (l .size .fields / 2 - 1) (λ r. has F 0 (2 * r) && rowsClash (l .size .individuals) (l .size .classes) J false (markerRow (l .size) t M L (l .concepts) r (l .size .classes)))
+      → y ≡ clashIn l t S L
+  unfolding clashIn
+  clash-markers takers functional e markers = rw (← takers, ← functional, ← disjoint, ← rows, e) markers

@@ -17,14 +17,14 @@ use Rattle.tables.proofs.Open.{open-limits}
 use borrow.Author.Needs.{needs}
 use native.Mathlib.Omega.{arith}
 
-abbrev μ-allot : Measures 5 allot-kinds.ps ℕ
-μ-allot κs a = 3 - a .1 .1 .1 .1 .1 .1 .1 .1 .0
+abbrev μ-allot : Measures 6 allot-kinds.ps ℕ
+μ-allot κs a = 3 - a .1 .1 .1 .1 .1 .1 .1 .0
 
-abbrev allot-at : ℕ → In 5 allot-kinds.ps
-allot-at t = and 5 allot-kinds.ps (is 5 allot-kinds.ps μ-allot t) allot.Pre
+abbrev allot-at : ℕ → In 6 allot-kinds.ps
+allot-at t = and 6 allot-kinds.ps (is 6 allot-kinds.ps μ-allot t) allot.Pre
 
-abbrev allot-below : ℕ → In 5 allot-kinds.ps
-allot-below t = and 5 allot-kinds.ps (falls 5 allot-kinds.ps _<_ μ-allot t) allot.Pre
+abbrev allot-below : ℕ → In 6 allot-kinds.ps
+allot-below t = and 6 allot-kinds.ps (falls 6 allot-kinds.ps _<_ μ-allot t) allot.Pre
 
 allot-wanted-requires : (t : ℕ) → allot-lts.Need-wanted-requires (
   wanted-reads.Asked,
@@ -40,7 +40,7 @@ allot-wanted-requires : (t : ℕ) → allot-lts.Need-wanted-requires (
   rows-of-any-reads.Asked,
   rows-of-any-reads.Learnt,
 ) (allot-at t) allot.Post
-allot-wanted-requires t c κs = open-sized (c .before .before .before .before .before .pre .1 .0)
+allot-wanted-requires t c κs = open-sized (c .before .before .before .before .before .before .pre .1 .0)
 
 allot-add-allot : (t : ℕ) → allot-lts.Need-add-allot (
   wanted-reads.Asked,
@@ -72,7 +72,7 @@ allot-allot-requires : (t : ℕ) → allot-lts.Need-allot-requires (
   rows-of-any-reads.Asked,
   rows-of-any-reads.Learnt,
 ) (allot-at t) allot.Post
-allot-allot-requires t c κs = let m = c .before .before .before .before .before .before .before .before .before .before .pre .0 in let w = c .before .before .before .before .wanted .ensures .last in (omega arith, c .before .before .before .before .before .before .before .before .before .before .pre .1)
+allot-allot-requires t c κs = let m = c .before .before .before .before .before .before .before .before .before .before .before .pre .0 in let w = c .before .before .before .before .wanted .ensures .last in (omega arith, c .before .before .before .before .before .before .before .before .before .before .before .pre .1)
 
 allot-same-length : (t : ℕ) → allot-lts.Need-same-length (
   wanted-reads.Asked,
@@ -152,7 +152,7 @@ allot-small-requires : (t : ℕ) → allot-lts.Need-small-requires (
   rows-of-any-reads.Asked,
   rows-of-any-reads.Learnt,
 ) (allot-at t) allot.Post
-allot-small-requires t c κs = let p = c .before .before .before .before .before .before .before .before .before .before .before .pre .1 in let w = c .before .before .before .before .before .wanted .ensures in let e = c .before .before .before .if2 .taken in (p .0, (p .1 .0, (p .1 .1, (w .small e, w .tiny e))))
+allot-small-requires t c κs = let p = c .before .before .before .before .before .before .before .before .before .before .before .before .pre .1 in let w = c .before .before .before .before .before .wanted .ensures in let e = c .before .before .before .if2 .taken in (p .0, (p .1 .0, (p .1 .1 .0, (p .1 .1 .1, (w .small e, w .tiny e)))))
 
 allot-same-length-4 : (t : ℕ) → allot-lts.Need-same-length-4 (
   wanted-reads.Asked,
@@ -232,7 +232,7 @@ allot-rows-in-cache-requires : (t : ℕ) → allot-lts.Need-rows-in-cache-requir
   rows-of-any-reads.Asked,
   rows-of-any-reads.Learnt,
 ) (allot-at t) allot.Post
-allot-rows-in-cache-requires t c κs = let p = c .before .before .before .before .before .before .before .before .before .before .before .before .pre .1 in (p .0, (p .1 .0, (p .1 .1, c .before .before .before .before .before .before .wanted .ensures .cache (c .before .before .before .if3 .taken))))
+allot-rows-in-cache-requires t c κs = let p = c .before .before .before .before .before .before .before .before .before .before .before .before .before .pre .1 in (p .0, (p .1 .0, (p .1 .1 .0, (p .1 .1 .1, c .before .before .before .before .before .before .wanted .ensures .cache (c .before .before .before .if3 .taken)))))
 
 allot-same-length-7 : (t : ℕ) → allot-lts.Need-same-length-7 (
   wanted-reads.Asked,
@@ -312,7 +312,7 @@ allot-rows-of-some-requires : (t : ℕ) → allot-lts.Need-rows-of-some-requires
   rows-of-any-reads.Asked,
   rows-of-any-reads.Learnt,
 ) (allot-at t) allot.Post
-allot-rows-of-some-requires t c κs = let p = c .before .before .before .before .before .before .before .before .before .before .before .before .before .pre .1 in (p .0, (p .1 .0, (p .1 .1, c .before .before .before .before .before .before .before .wanted .ensures .some (c .before .before .before .if4 .taken))))
+allot-rows-of-some-requires t c κs = let p = c .before .before .before .before .before .before .before .before .before .before .before .before .before .before .pre .1 in (p .0, (p .1 .0, (p .1 .1 .0, (p .1 .1 .1, c .before .before .before .before .before .before .before .wanted .ensures .some (c .before .before .before .if4 .taken)))))
 
 allot-same-length-10 : (t : ℕ) → allot-lts.Need-same-length-10 (
   wanted-reads.Asked,
@@ -392,7 +392,7 @@ allot-rows-of-any-requires : (t : ℕ) → allot-lts.Need-rows-of-any-requires (
   rows-of-any-reads.Asked,
   rows-of-any-reads.Learnt,
 ) (allot-at t) allot.Post
-allot-rows-of-any-requires t c κs = let p = c .before .before .before .before .before .before .before .before .before .before .before .before .before .pre .1 in (p .0, (p .1 .0, (p .1 .1, most-rows _ (open-limits (p .0)))))
+allot-rows-of-any-requires t c κs = let p = c .before .before .before .before .before .before .before .before .before .before .before .before .before .before .pre .1 in (p .0, (p .1 .0, (p .1 .1 .0, (p .1 .1 .1, most-rows _ (open-limits (p .0))))))
 
 allot-same-length-13 : (t : ℕ) → allot-lts.Need-same-length-13 (
   wanted-reads.Asked,

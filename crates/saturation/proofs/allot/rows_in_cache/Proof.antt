@@ -12,7 +12,7 @@ slice-aggregate-large : tie.Need-slice-aggregate-large
 slice-aggregate-large c = search needs
 
 large-requires : tie.Need-large-requires
-large-requires c κs = let p = c .before .before .before .before .before .before .before .before .before .pre in (p .0, (p .1 .0, (p .1 .1 .0, (blank 16384, table-within (c .before .before .before .before .before .before .before .before .before .args .counts) 2048 16384 (p .1 .1 .1) (omega arith)))))
+large-requires c κs = let p = c .before .before .before .before .before .before .before .before .before .before .pre in (p .0, (p .1 .0, (p .1 .1 .0, (p .1 .1 .1 .0, (blank 16384, table-within (c .before .before .before .before .before .before .before .before .before .before .args .task .counts) 2048 16384 (p .1 .1 .1 .1) (omega arith))))))
 
 same-length : tie.Need-same-length
 same-length c = search needs
