@@ -46,7 +46,7 @@ module _ (B : Book) (top : Limits (B .counts)) (pairs-low : Every (PairLow (B .c
     marked-by x a r c e =
         some-map _ _ (λ (m : Mark) i. let b = and-both (eqb (m .left) a) (eqb (m .role) r && eqb (m .class) c) i in and-intro (P (type x (m .left))) _ (ap (λ (y : ℕ). P (type x y)) (eqb-true (m .left) a (b .0)) ∙ e) (b .1)) (marks B)
 
-    types-clash : (x a b : ℕ) → x < B .counts .individuals → P (type x a) ≡ true → P (type x b) ≡ true → pairClash B a b ≡ true → clashes B P ≡ true
+    pub types-clash : (x a b : ℕ) → x < B .counts .individuals → P (type x a) ≡ true → P (type x b) ≡ true → pairClash B a b ≡ true → clashes B P ≡ true
     unfolding pairClash clashes typeClash markerClash
     types-clash x a b l e f w =
         some-any (B .counts .individuals) (λ x. typeClash B P x || markerClash B P x) x l
@@ -72,16 +72,16 @@ module _ (B : Book) (top : Limits (B .counts)) (pairs-low : Every (PairLow (B .c
             (and-intro (not (eqb (m .it .one) (m .it .other))) _ (c .0) (some-map _ _ both (functional B) (c .1))))
 
     -- and of a set that clashes two types do
-    record Clashing : Type 0 where
-      at : ℕ
-      one : ℕ
-      other : ℕ
-      at-low : at < B .counts .individuals
-      one-low : one < B .counts .classes
-      other-low : other < B .counts .classes
-      has-one : P (type at one) ≡ true
-      has-other : P (type at other) ≡ true
-      clash : pairClash B one other ≡ true
+    pub record Clashing : Type 0 where
+      pub at : ℕ
+      pub one : ℕ
+      pub other : ℕ
+      pub at-low : at < B .counts .individuals
+      pub one-low : one < B .counts .classes
+      pub other-low : other < B .counts .classes
+      pub has-one : P (type at one) ≡ true
+      pub has-other : P (type at other) ≡ true
+      pub clash : pairClash B one other ≡ true
 
     type-clashing : (x : ℕ) → x < B .counts .individuals → typeClash B P x ≡ true → Clashing
     unfolding typeClash
@@ -145,7 +145,7 @@ module _ (B : Book) (top : Limits (B .counts)) (pairs-low : Every (PairLow (B .c
             }
         go p among differ (Inverse r) i fun = false-true i
 
-    clashing : clashes B P ≡ true → Clashing
+    pub clashing : clashes B P ≡ true → Clashing
     unfolding clashes
     clashing e =
         let x = any-some (B .counts .individuals) (λ x. typeClash B P x || markerClash B P x) e in

@@ -81,7 +81,7 @@ module _ (c : ℕ) (l : c < 256) where
   class-shape (existential r e) = class-value r (shape e)
   class-shape other = no-class
 
-  classes-some : (e : Concept) → some (leaves e) (λ x. eqb (slotTree x) (65536 + c)) ≡ some (atomics e) (λ y. eqb y c)
+  pub classes-some : (e : Concept) → some (leaves e) (λ x. eqb (slotTree x) (65536 + c)) ≡ some (atomics e) (λ y. eqb y c)
   unfolding atomics
   classes-some e = some-same _ _ (λ x. class-shape (shape x)) (leaves e) ∙ sym (some-from (λ y. eqb y c) atomicOf (leaves e))
 
@@ -123,7 +123,7 @@ module _ (f b : ℕ) (m : f < 128) (n : b < 512) where
   value-shape (existential r e) = value-filler r (shape e)
   value-shape other = no-value
 
-  values-some : (e : Concept) → some (leaves e) (λ x. eqb (slotTree x) (f * 512 + b)) ≡ some (values e) (λ v. eqb (fieldOf (v .role)) f && eqb (v .to) b)
+  pub values-some : (e : Concept) → some (leaves e) (λ x. eqb (slotTree x) (f * 512 + b)) ≡ some (values e) (λ v. eqb (fieldOf (v .role)) f && eqb (v .to) b)
   unfolding values
   values-some e = some-same _ _ (λ x. value-shape (shape x)) (leaves e) ∙ sym (some-from ofValue valueOf (leaves e))
 

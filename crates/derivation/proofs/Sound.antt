@@ -77,7 +77,7 @@ module _ (B : Book) (P S : Set) (obeys : Obeys (rules B) S) (within : In P S) (r
   unfolding byClash
   clash-right e = clashes-up B P S within (and-both (eqb (r .statement) none || ltb (r .statement) (length (statements B))) (clashes B P) (and-both (eqb (r .rule) 8) _ e .1) .1)
 
-  follows-right : (c : Claim) → follows B r P c ≡ true → Right B S c
+  pub follows-right : (c : Claim) → follows B r P c ≡ true → Right B S c
   follows-right (fact f) e = ⊎-elim (statement-right f) (sharing-right f) (or-cases (byStatement B r P f) (bySharing B r P f) e)
   follows-right clash e = clash-right e
   follows-right nothing e = false-true e
@@ -97,7 +97,7 @@ module _ (B : Book) (S : Set) (obeys : Obeys (rules B) S) (l : List ℕ) where
         go true e = λ f h. false-true h
         go false e = says-in B S (claimAt B l x) (right x (ltb-true x k e))
 
-    named-in : (r : Row) → earlier k r ≡ true → In (named (B .counts) l r) S
+    pub named-in : (r : Row) → earlier k r ≡ true → In (named (B .counts) l r) S
     unfolding earlier named
     named-in r e f h =
         let a = and-both (before k (r .first)) _ e in

@@ -1,9 +1,9 @@
 // Derivations (request No. 6): rows of nine numbers, and the checker that says how many of them stand.
 pub mod check; // the checker
-mod deep; // the leaves of each concept, at any depth of And
-mod enter; // the statements, entered into the tables
-mod fact; // facts by number
-mod pair; // the pairs of classes that clash
+pub mod deep; // the leaves of each concept, at any depth of And
+pub mod enter; // the statements, entered into the tables
+pub mod fact; // facts by number
+pub mod pair; // the pairs of classes that clash
 mod order; // the premises of a row in any order
 pub mod row; // rows, and what they claim
 mod rule; // one use of a rule, from premises in order

@@ -1,0 +1,2 @@
+-- Listings of a run (request No. 6).
+pub mod Listing
