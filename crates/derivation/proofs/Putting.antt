@@ -11,20 +11,19 @@ use Rattle.book.specs.declared.header.Counts.{Counts}
 use Rattle.book.specs.declared.statement.Axiom.{Axiom}
 use Rattle.rows.specs.Row.{Put}
 use Rattle.rules.specs.Fact.{Two, two}
-use Rattle.rules.specs.ToldSame.{labels}
-use Rattle.rules.proofs.Labels.{labels-append}
 use Rattle.tables.specs.Leaf.{LeafWithin, Leaves}
 use Rattle.tables.specs.Tables.{With, Labelled, LabelsWith}
 use Rattle.tables.proofs.Tables.{with-none, with-one, with-then}
 use Rattle.tables.proofs.leaf.Books.{leafBook, leaves-of-book}
 use Rattle.tables.proofs.same.Labelling.{joins-none}
 use Rattle.said.specs.Said.{Said, plus, saysBy}
-use Rattle.said.specs.Entry.{ofEntry}
+use Rattle.derivation.specs.Entry.{ofEntry}
 use Rattle.said.specs.declared.layout.Relation.the-variants as relation
-use Rattle.said.specs.declared.entry.Entry.{Entry}
-use Rattle.said.specs.declared.entry.Entry.the-variants.{Nothing, Functional, Disjoint, Above, Taker, Asserted, TwoRoles, ThreeRoles, Same, Edge}
-use Rattle.said.proofs.entry.Entry.{the-type}
-use Rattle.said.proofs.entry.Says.{alike}
+use Rattle.derivation.specs.declared.entry.Entry.{Entry}
+use Rattle.derivation.specs.declared.entry.Entry.the-variants.{Nothing, Functional, Disjoint, Above, Taker, Asserted, TwoRoles, ThreeRoles, Same, Edge}
+use Rattle.derivation.proofs.entry.Entry.{the-type}
+use Rattle.said.proofs.enter.Says.{alike}
+use Rattle.saturation.proofs.Adding.{labels-then}
 use Rattle.derivation.specs.Entering.{Rooms, WithSaid, Added}
 
 -- ---- one entry, by its kind
@@ -63,13 +62,6 @@ put-same a b e w = rw e (record { takers = with-none; disjoint = with-none; pair
 
 -- ---- both entries of a statement
 
-labels-then : {n : ℕ} {K L M : List ℕ} (l m : List Two) → LabelsWith n K l L → LabelsWith n L m M → LabelsWith n K (l ++ m) M
-labels-then l m a b = record {
-  len = b .len ∙ a .len;
-  labelled = b .labelled;
-  labels = λ N p i j. b .labels (labels l N) (a .labels N p) i j ∙ ap (λ (g : ℕ → ℕ). g i) (sym (labels-append l m N));
-}
-
 pub said-then : {h : Counts} (f g : Said) {T J P F K T' J' P' F' K' T'' J'' P'' F'' K'' : List ℕ} → WithSaid h f T J P F K T' J' P' F' K' → WithSaid h g T' J' P' F' K' T'' J'' P'' F'' K''
     → WithSaid h (plus f g) T J P F K T'' J'' P'' F'' K''
 said-then f g a b = record {
@@ -77,7 +69,7 @@ said-then f g a b = record {
   disjoint = with-then (a .disjoint) (b .disjoint);
   pairs = with-then (a .pairs) (b .pairs);
   functional = with-then (a .functional) (b .functional);
-  labels = labels-then (f .same) (g .same) (a .labels) (b .labels);
+  labels = labels-then (a .labels) (b .labels);
 }
 
 -- the tables keep their room

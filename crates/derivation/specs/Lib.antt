@@ -5,6 +5,7 @@ pub mod Fits
 pub mod Tables
 pub mod Collected
 pub mod Pairs
+pub mod Entry
 pub mod Entering
 pub mod Judging
 pub mod Examples

@@ -2,6 +2,7 @@
 pub mod check; // the checker
 pub mod deep; // the leaves of each concept, at any depth of And
 pub mod enter; // the statements, entered into the tables
+mod entry; // what a statement puts into them
 pub mod fact; // facts by number
 pub mod pair; // the pairs of classes that clash
 mod order; // the premises of a row in any order
