@@ -85,6 +85,30 @@ fn aimed() -> Vec<Statement> {
     statements
 }
 
+/// The same for a path with a source and days, the longest record: for each digit of its fields, from the last back, a record
+/// that differs from it there, or at the next digit that can be another.
+fn aimed_marked() -> Vec<Statement> {
+    let aim: Vec<u16> = vec![0, 0, 0, 0, 0x0111, 0x1111, 0x8888];
+    let mut statements: Vec<Statement> = vec![];
+    for digit in 0..4 * aim.len() {
+        let other = (digit..4 * aim.len()).flat_map(|d| (1..4).map(move |change| (d, change))).find_map(|(d, change)| {
+            let (field, shift) = (aim.len() - 1 - d / 4, [8, 12, 0, 4][d % 4]);
+            let mut fields = aim.clone();
+            fields[field] ^= change << shift;
+            let inside = match field {
+                0..=3 => fields[field] < 128,
+                4 => fields[field] < 1024,
+                _ => true,
+            };
+            let statement = (5, 0x070F, fields);
+            (inside && !statements.contains(&statement)).then_some(statement)
+        });
+        statements.extend(other);
+    }
+    statements.resize(4096, (5, 0x070F, aim));
+    statements
+}
+
 /// Role assertions whose records have one value of a usual hash function: a table with that function has them all in
 /// one chain.
 fn one_hash() -> Vec<Statement> {
@@ -160,17 +184,25 @@ fn main() {
     };
     let sources: Vec<Statement> = edges.iter().enumerate().map(signed).collect();
     let shared: Vec<Statement> = edges[..4].iter().cycle().take(4092).enumerate().map(signed).collect();
+    let dated = |(n, (kind, map, fields)): (usize, &Statement)| {
+        (*kind, map | 0x0700, [&fields[..], &[1 + (n % 1023) as u16, 1 + (n % 7) as u16, 9000 + (n % 5) as u16]].concat())
+    };
+    let periods: Vec<Statement> = edges.iter().enumerate().map(dated).collect();
+    let marked: Vec<Statement> = deep.iter().map(|(kind, map, fields)| (*kind, map | 0x0700, [&fields[..], &[1, 1, 2]].concat())).collect();
     row("4,096 different role assertions", 0, &edges, runs);
     row("4,096 different role assertions of 1,023 sources", 0, &sources, runs);
     row("four role assertions, each by 1,023 sources", 0, &shared, runs);
+    row("4,096 different role assertions with sources and days", 0, &periods, runs);
     row("4,096 different class assertions", 4096, &types, runs);
     row("4,096 different subclass statements", 4096, &classes, runs);
     row("4,096 equal statements", 0, &vec![edges[0].clone(); 4096], runs);
     row("2,048 pairs of repeats, side by side", 0, &pairs, runs);
     row("2,048 pairs of repeats, 2,048 apart", 0, &far, runs);
     row("4,096 different paths that agree in their last roles", 0, &deep, runs);
+    row("the same of one source in one period", 0, &marked, runs);
     row("4,096 role assertions under one value of a hash", 0, &one_hash(), runs);
     row("one statement at the end of the longest way", 0, &aimed(), runs);
+    row("one statement with source and days at the end of the longest way", 0, &aimed_marked(), runs);
     for n in [0, 256, 512, 1024, 2048] {
         row(&format!("{n} different role assertions"), 0, &edges[..n], runs);
     }

@@ -24,7 +24,7 @@ extern "C" {
 #define ZAMOLUVEL_FINISHED 0u
 #define ZAMOLUVEL_CLASH 1u
 #define ZAMOLUVEL_SPENT 2u
-#define ZAMOLUVEL_REFUSED 100u /* plus the number of the refusal, 1 to 11, 14 or 15 */
+#define ZAMOLUVEL_REFUSED 100u /* plus the number of the refusal, 1 to 11 or 14 to 16 */
 
 /* Which list zamoluvel_named_part is asked for. */
 #define ZAMOLUVEL_EDGES 0u
@@ -32,8 +32,8 @@ extern "C" {
 
 /* Runs a book.
  *
- *   book, book_len    the bytes of the book, any at all; they are read only. The sources of its statements change
- *                     nothing.
+ *   book, book_len    the bytes of the book, any at all; they are read only. The sources and days of its statements
+ *                     change nothing.
  *   budget            how many facts, types and edges together, may be kept: at most 1,000,000
  *   types, types_len  the type list, at least 2 * budget entries: (individual, class) for each type
  *   edges, edges_len  the edge list, at least 3 * budget entries: (role, first, second) for each edge
@@ -49,10 +49,10 @@ extern "C" {
  *                          the three counts are the numbers of rows
  *   ZAMOLUVEL_CLASH        no world fits the book; type and edge counts; every entry of every list is 0
  *   ZAMOLUVEL_SPENT        there are more facts than the budget; every entry of every list is 0
- *   ZAMOLUVEL_REFUSED + n  refused by number: 1 the budget, 2 the edge list, 3 the type list, 4 to 10 the book (5 also
- *                          for a written source 0, 9 also for a source above 1,023), each of these with the lists as
- *                          they were; 11 the pair list is too short, and every
- *                          entry of every list is 0
+ *   ZAMOLUVEL_REFUSED + n  refused by number: 1 the budget, 2 the edge list, 3 the type list, 4 to 10 and 16 the book (5
+ *                          also for a written source 0, first day 0 or last day 65,535, 9 also for a source above
+ *                          1,023, 16 for a last day before the first), each of these with the lists as they were; 11
+ *                          the pair list is too short, and every entry of every list is 0
  */
 uint32_t zamoluvel_saturate(const uint8_t *book, size_t book_len, uint64_t budget, uint32_t *types,
                             size_t types_len, uint32_t *edges, size_t edges_len, uint32_t *pairs,
@@ -75,19 +75,44 @@ uint32_t zamoluvel_saturate_for(const uint8_t *book, size_t book_len, uint64_t b
                                 size_t pairs_len, uint32_t reader, const uint32_t *table, size_t table_len,
                                 uint32_t *type_count, uint32_t *edge_count, uint32_t *pair_count);
 
+/* Runs a book as of a day: as zamoluvel_saturate would run the book without the statements that are not in force that day. A
+ * statement is in force from its first day to its last, both among them; without a first day from day 0 on, without a last one
+ * to day 65,535.
+ *
+ *   day     days from 1 January 2000 on. Every number of 16 bits is a day, and there is no number for none: a run without a day
+ *           is zamoluvel_saturate. (A number above 65,535 is cut down by C without a word where it is passed; mind the
+ *           conversion.)
+ *   counts  receives the type, the edge and the pair count, in this order; 0 where the end has none. It must not be null.
+ *
+ * All else as for zamoluvel_saturate. A fault in a statement that is not in force refuses the book on every day.
+ */
+uint32_t zamoluvel_saturate_on(const uint8_t *book, size_t book_len, uint64_t budget, uint32_t *types,
+                               size_t types_len, uint32_t *edges, size_t edges_len, uint32_t *pairs,
+                               size_t pairs_len, uint16_t day, uint32_t counts[3]);
+
+/* Runs a book for a reader as of a day: of the statements in force that day those count that he may read. Two books that differ
+ * in statements alone that he may not read have equal ends and lists for him on every day.
+ *
+ * reader, table and refusals as for zamoluvel_saturate_for, day and counts as for zamoluvel_saturate_on.
+ */
+uint32_t zamoluvel_saturate_for_on(const uint8_t *book, size_t book_len, uint64_t budget, uint32_t *types,
+                                   size_t types_len, uint32_t *edges, size_t edges_len, uint32_t *pairs,
+                                   size_t pairs_len, uint32_t reader, const uint32_t *table, size_t table_len,
+                                   uint16_t day, uint32_t counts[3]);
+
 /* The part of a list that the facts of a run fill: so many entries of it, from the first on.
  *
- *   end, edge_count, pair_count  what zamoluvel_saturate returned and wrote
+ *   end, edge_count, pair_count  what a run returned and wrote
  *   named                        ZAMOLUVEL_EDGES or ZAMOLUVEL_PAIRS
  *
  * Returns 3 * edge_count or 2 * pair_count after ZAMOLUVEL_FINISHED, and 0 at any other end or for another list.
  */
 size_t zamoluvel_named_part(uint32_t end, uint32_t edge_count, uint32_t pair_count, uint32_t named);
 
-/* What zamoluvel_write answers, beside ZAMOLUVEL_REFUSED plus the number of the refusal, 4 to 10 or 12. */
+/* What zamoluvel_write answers, beside ZAMOLUVEL_REFUSED plus the number of the refusal, 4 to 10, 12 or 16. */
 #define ZAMOLUVEL_WRITTEN 0u
 
-/* Writes a book without the statements that repeat an earlier one in kind and fields, the source among them; the first
+/* Writes a book without the statements that repeat an earlier one in kind and fields, source and days among them; the first
  * of each stays, and the order. Header counts, concepts and all else stay as they are. A book without repeats comes out byte for byte, a
  * written book written again comes out the same, and every run of it ends as the original's does, lists included.
  *
@@ -100,17 +125,17 @@ size_t zamoluvel_named_part(uint32_t end, uint32_t edge_count, uint32_t pair_cou
  *
  * Returns
  *   ZAMOLUVEL_WRITTEN      the written book stands at the front of the lent bytes; those behind it keep their values
- *   ZAMOLUVEL_REFUSED + n  refused by number, with every lent byte as it was: 4 to 10 the book, as for a run; 12 the
+ *   ZAMOLUVEL_REFUSED + n  refused by number, with every lent byte as it was: 4 to 10 and 16 the book, as for a run; 12 the
  *                          book is accepted, and its written form has more bytes than are lent
  */
 uint32_t zamoluvel_write(const uint8_t *book, size_t book_len, uint8_t *out, size_t out_len, size_t *written);
 
-/* What zamoluvel_figure answers, beside ZAMOLUVEL_REFUSED plus the number of the refusal, 4 to 10. */
+/* What zamoluvel_figure answers, beside ZAMOLUVEL_REFUSED plus the number of the refusal, 4 to 10 or 16. */
 #define ZAMOLUVEL_FIGURE 0u
 
 /* What a book will need: how many facts, types and edges together, its conclusions can have at most, without a run. Take
  * the book with all individuals made one; the figure is the individuals times the classes that its conclusions hold, plus
- * the square of the individuals times the roles. A run with a budget of at least the figure is never spent.
+ * the square of the individuals times the roles. All statements count, whatever their sources and days. A run with a budget of at least the figure is never spent.
  *
  *   book, book_len  the bytes of the book, any at all; they are read only
  *   needed          receives the figure, at most 16,908,288; 0 where the book is refused. It must not be null, and not
@@ -122,11 +147,11 @@ uint32_t zamoluvel_write(const uint8_t *book, size_t book_len, uint8_t *out, siz
  *
  * Returns
  *   ZAMOLUVEL_FIGURE       the figure is written
- *   ZAMOLUVEL_REFUSED + n  refused by number, 4 to 10 the book, as for a run; 0 is written
+ *   ZAMOLUVEL_REFUSED + n  refused by number, 4 to 10 and 16 the book, as for a run; 0 is written
  */
 uint32_t zamoluvel_figure(const uint8_t *book, size_t book_len, uint32_t *needed);
 
-/* What zamoluvel_check_rows answers, beside ZAMOLUVEL_REFUSED plus the number of the refusal, 4 to 10. */
+/* What zamoluvel_check_rows answers, beside ZAMOLUVEL_REFUSED plus the number of the refusal, 4 to 10 or 16. */
 #define ZAMOLUVEL_JUDGED 0u
 
 /* Where a row has no number. */
@@ -151,13 +176,13 @@ uint32_t zamoluvel_figure(const uint8_t *book, size_t book_len, uint32_t *needed
  *
  * Returns
  *   ZAMOLUVEL_JUDGED       so many rows stand
- *   ZAMOLUVEL_REFUSED + n  the book is refused by number, 4 to 10, as for a run
+ *   ZAMOLUVEL_REFUSED + n  the book is refused by number, 4 to 10 or 16, as for a run
  */
 uint32_t zamoluvel_check_rows(const uint8_t *book, size_t book_len, const uint32_t *rows, size_t rows_len,
                               size_t *standing);
 
 /* A book of the list of every small book: one class, one role, two individuals, the concept Atomic 0 and at most two
- * statements, none with a source. There are 1 + 61 + 3,721 of them, fewer statements first, then by their bytes.
+ * statements, none with a source or days. There are 1 + 61 + 3,721 of them, fewer statements first, then by their bytes.
  *
  *   position      which one, counted from 0; any number
  *   out, out_len  the lent bytes, any number of them; 37 are enough for every small book. Where there are none, out

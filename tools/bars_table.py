@@ -2,7 +2,7 @@
 leave open. Each row has a book, a budget, the lengths of the three lists, and by hand what a run must come
 to: its end as the program prints it, and the types, edges and pairs that it lists.
 
-`bars` has the rows that are proved and run, `readings` those of runs that name a reader, also proved and run, and
+`bars` has the rows that are proved and run, `readings` those of runs that name a reader or a day, also proved and run, and
 `runs` those that are only run: input that is no book, and books that fill the program's lists.
 
 In a comment p, q are roles 0 and 1, A to D classes 0 to 3.
@@ -34,9 +34,9 @@ class Register:
     def both(self, *parts):
         return self.concept(f.AND, *parts)
 
-    def tell(self, kind, *fields, source=0):
+    def tell(self, kind, *fields, **marks):
         self.statements.append((kind, *fields))
-        self.marks.append(f.Marks(source))
+        self.marks.append(f.Marks(**marks))
         return self
 
     def data(self):
@@ -44,10 +44,10 @@ class Register:
 
 
 class Bar:
-    """`reader` is the number of the reader that the run names and the words of its table, or None."""
+    """`reader` is the number of the reader that the run names and the words of its table, `day` the day's number, or None."""
 
-    def __init__(self, label, book, end, types=(), edges=(), pairs=(), starred=False, budget=12, room=6, type_room=None, edge_room=None, reader=None):
-        self.label, self.starred, self.budget, self.end, self.reader = label, starred, budget, end, reader
+    def __init__(self, label, book, end, types=(), edges=(), pairs=(), starred=False, budget=12, room=6, type_room=None, edge_room=None, reader=None, day=None):
+        self.label, self.starred, self.budget, self.end, self.reader, self.day = label, starred, budget, end, reader, day
         self.data = book.data() if isinstance(book, Register) else bytes(book)
         self.type_room = 2 * budget if type_room is None else type_room
         self.edge_room = 3 * budget if edge_room is None else edge_room
@@ -80,7 +80,6 @@ def bars():
     row('a written source 0: refused 5', one[:-2] + f.u16(0), 'refused 5')
     row('a source 1,024: refused 9', one[:-2] + f.u16(1024), 'refused 9')
     row('a source cut off: refused 4', one[:-1], 'refused 4')
-    row('bit 9 of a map: refused 8', one[:7] + b'\x02' + one[8:], 'refused 8')
     b = Register(0, 1, 3).tell(f.TRANSITIVE, P, source=7).tell(f.ROLE_ASSERTION, P, 0, 1, source=1).tell(f.ROLE_ASSERTION, P, 1, 2, source=1023)
     row('p transitive by one source, p(0,1) and p(1,2) by two others: p(0,2)', b, 'finished 0 3 0', edges=[(0, 0, 1), (0, 0, 2), (0, 1, 2)])
     b = Register(0, 1, 2)
@@ -91,6 +90,30 @@ def bars():
     a, c = b.classes(2)
     b.tell(f.DISJOINT, a, c, source=1).tell(f.CLASS_ASSERTION, a, 0, source=2).tell(f.CLASS_ASSERTION, c, 0, source=3)
     row('A and B disjoint, 0:A, 0:B, by three sources: clash', b, 'clash 2 0')
+
+    # days
+    one = Register(0, 0, 2).tell(f.SAME, 0, 1, first=1, last=1).data()
+    row('a period of one day', one, 'finished 0 0 0')
+    row('the longest period that is written whole', one[:-4] + f.u16(1, 65534), 'finished 0 0 0')
+    row('a written first day 0: refused 5', one[:-4] + f.u16(0, 1), 'refused 5')
+    row('a written last day 65,535: refused 5', one[:-4] + f.u16(1, 65535), 'refused 5')
+    row('a last day before the first: refused 16', one[:-4] + f.u16(258, 257), 'refused 16')
+    row('a last day 0 before the first day 1: refused 16', one[:-4] + f.u16(1, 0), 'refused 16')
+    row('a last day cut off: refused 4, though the first day is known', one[:-1], 'refused 4')
+    row('bit 11 of a map: refused 8', one[:7] + b'\x08' + one[8:], 'refused 8')
+    one = Register(0, 0, 2).tell(f.SAME, 0, 1, first=65535).data()
+    row('a first day 65,535 alone', one, 'finished 0 0 0')
+    row('a first day 0 alone: refused 5', one[:-2] + f.u16(0), 'refused 5')
+    one = Register(0, 0, 2).tell(f.SAME, 0, 1, last=0).data()
+    row('a last day 0 alone', one, 'finished 0 0 0')
+    row('a last day 65,535 alone: refused 5', one[:-2] + f.u16(65535), 'refused 5')
+    one = Register(0, 0, 2).tell(f.SAME, 0, 1, source=1, first=2, last=3).data()
+    row('a source and a period', one, 'finished 0 0 0')
+    row('a source 1,024 and a last day before the first: refused 9', one[:-6] + f.u16(1024, 3, 2), 'refused 9')
+    b = Register(0, 1, 3).tell(f.TRANSITIVE, P, last=9).tell(f.ROLE_ASSERTION, P, 0, 1, first=20).tell(f.ROLE_ASSERTION, P, 1, 2, first=10, last=19)
+    row('p transitive to day 9, p(0,1) and p(1,2) in periods behind it: p(0,2), as no day is named', b, 'finished 0 3 0', edges=[(0, 0, 1), (0, 0, 2), (0, 1, 2)])
+    b = Register(0, 1, 2).tell(f.ROLE_ASSERTION, P, 0, 1).tell(f.ROLE_ASSERTION, P, 0, 1, first=1).tell(f.ROLE_ASSERTION, P, 0, 1, last=1)
+    row('p(0,1) in three periods: one edge', b, 'finished 0 1 0', edges=[(0, 0, 1)], budget=1)
 
     # rule 3
     b = Register(0, 2, 2).tell(f.INVERSE, P, Q).tell(f.ROLE_ASSERTION, P, 0, 1)
@@ -343,6 +366,62 @@ def readings():
     row('too short a type list and reader 32: refused 3', [0], 'refused 3', (32, []), budget=2, type_room=3, edge_room=6, room=1)
     bad = Register(0, 1, 2).tell(f.ROLE_ASSERTION, P, 0, 1, source=1).data()
     row('an individual out of range in a statement that the reader may not read: refused 9', bad[:-4] + f.u16(2) + bad[-2:], 'refused 9', (1, own))
+
+    # days: the ends of a period, closed and open
+    b = Register(0, 1, 3).tell(f.ROLE_ASSERTION, P, 0, 1, first=100, last=200).tell(f.ROLE_ASSERTION, P, 1, 2)
+    both, undated = [(0, 0, 1), (0, 1, 2)], [(0, 1, 2)]
+    row('p(0,1) from day 100 to day 200, p(1,2) without days; no day: both', b, 'finished 0 2 0', None, edges=both)
+    row('the day before the first', b, 'finished 0 1 0', None, day=99, edges=undated)
+    row('the first day', b, 'finished 0 2 0', None, day=100, edges=both)
+    row('the last day', b, 'finished 0 2 0', None, day=200, edges=both)
+    row('the day behind the last', b, 'finished 0 1 0', None, day=201, edges=undated)
+    row('the first day of all', b, 'finished 0 1 0', None, day=0, edges=undated)
+    row('the last day of all', b, 'finished 0 1 0', None, day=65535, edges=undated)
+    b = Register(0, 1, 4).tell(f.ROLE_ASSERTION, P, 0, 1, last=100).tell(f.ROLE_ASSERTION, P, 1, 2, first=101).tell(f.ROLE_ASSERTION, P, 2, 3, first=100, last=100)
+    row('p(0,1) to day 100, p(1,2) from day 101, p(2,3) on day 100: day 0', b, 'finished 0 1 0', None, day=0, edges=[(0, 0, 1)])
+    row('day 100', b, 'finished 0 2 0', None, day=100, edges=[(0, 0, 1), (0, 2, 3)])
+    row('day 101', b, 'finished 0 1 0', None, day=101, edges=[(0, 1, 2)])
+    row('day 65,535', b, 'finished 0 1 0', None, day=65535, edges=[(0, 1, 2)])
+
+    # every part of the conclusions comes from statements in force
+    b = Register(0, 1, 2).tell(f.SAME, 0, 1, first=5, last=5).tell(f.ROLE_ASSERTION, P, 0, 0)
+    row('0 same as 1 on day 5, p(0,0): 4 edges on day 5', b, 'finished 0 4 0', None, day=5, edges=[(0, 0, 0), (0, 0, 1), (0, 1, 0), (0, 1, 1)])
+    row('and 1 on day 6', b, 'finished 0 1 0', None, day=6, edges=[(0, 0, 0)])
+    b = Register(2, 0, 1)
+    a, c = b.classes(2)
+    b.tell(f.DISJOINT, a, c, last=5).tell(f.CLASS_ASSERTION, a, 0).tell(f.CLASS_ASSERTION, c, 0)
+    row('A and B disjoint to day 5, 0:A, 0:B: clash on day 5', b, 'clash 2 0', None, day=5)
+    row('and none on day 6', b, 'finished 2 0 0', None, day=6, types=[(0, 0), (0, 1)])
+    b = Register(1, 1, 3)
+    a, = b.classes(1)
+    b.tell(f.FUNCTIONAL, P, first=5).tell(f.ROLE_ASSERTION, P, 0, 1).tell(f.ROLE_ASSERTION, P, 0, 2).tell(f.CLASS_ASSERTION, a, 1)
+    row('p functional from day 5, p(0,1), p(0,2), 1:A: a same pair on day 5', b, 'finished 2 2 1', None, day=5, types=[(1, 0), (2, 0)], edges=[(0, 0, 1), (0, 0, 2)], pairs=[(1, 2)])
+    row('for which the pair list has no room: refused 11', b, 'refused 11', None, day=5, room=1)
+    row('day 4 has no pair, and needs no room', b, 'finished 1 2 0', None, day=4, types=[(1, 0)], edges=[(0, 0, 1), (0, 0, 2)], room=1)
+    b = Register(2, 0, 1)
+    a, c = b.classes(2)
+    b.tell(f.SUB_CLASS, a, c, first=5).tell(f.CLASS_ASSERTION, a, 0)
+    row('A under B from day 5, 0:A: B on day 5, and the budget is spent', b, 'spent', None, day=5, budget=1)
+    row('and not on day 4, with budget enough', b, 'finished 1 0 0', None, day=4, types=[(0, 0)], budget=1)
+
+    # a reader and a day: the readable ones among those in force
+    b = Register(0, 1, 4).tell(f.ROLE_ASSERTION, P, 0, 1, source=1, first=5).tell(f.ROLE_ASSERTION, P, 1, 2, source=1, last=4).tell(f.ROLE_ASSERTION, P, 2, 3, first=5)
+    row('p(0,1) by source 1 from day 5, p(1,2) by source 1 to day 4, p(2,3) from day 5: reader 0 on day 5', b, 'finished 0 2 0', (0, own), day=5, edges=[(0, 0, 1), (0, 2, 3)])
+    row('reader 0 on day 4', b, 'finished 0 1 0', (0, own), day=4, edges=[(0, 1, 2)])
+    row('reader 1 on day 5', b, 'finished 0 1 0', (1, own), day=5, edges=[(0, 2, 3)])
+    row('reader 1 on day 4: nothing', b, 'finished 0 0 0', (1, own), day=4)
+    row('reader 0 without a day', b, 'finished 0 3 0', (0, own), edges=[(0, 0, 1), (0, 1, 2), (0, 2, 3)])
+    row('day 5 without a reader', b, 'finished 0 2 0', None, day=5, edges=[(0, 0, 1), (0, 2, 3)])
+
+    # refusals on a day: 14 and 15 where a reader is named, and a fault in a statement that is not in force
+    row('reader 32 on a day: refused 14', [0], 'refused 14', (32, words()), day=7)
+    row('too short a table on a day: refused 15', [0], 'refused 15', (0, words(1023)), day=7)
+    row('no bytes on a day: refused 4', [], 'refused 4', None, day=7)
+    row('too short a type list on a day: refused 3', [0], 'refused 3', None, day=7, budget=2, type_room=3, edge_room=6, room=1)
+    bad = Register(0, 1, 2).tell(f.ROLE_ASSERTION, P, 0, 1, first=5).data()
+    row('an individual out of range in a statement that is not in force: refused 9', bad[:-4] + f.u16(2) + bad[-2:], 'refused 9', None, day=4)
+    bad = Register(0, 1, 2).tell(f.ROLE_ASSERTION, P, 0, 1, first=6, last=6).data()
+    row('a last day before the first, and a day before both: refused 16', bad[:-2] + f.u16(5), 'refused 16', None, day=4)
     return out
 
 

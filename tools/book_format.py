@@ -3,8 +3,8 @@ refusal numbers, and a writer of records. The tests hold the two against each ot
 
 A concept is (kind, fields) with the fields in the order of their bits; the fields of an And or Or are
 its part numbers. A statement is (kind, map, fields), with the low byte of the map; its marks, which any
-kind may have, stand apart: whose statement it was, 0 for the shared book. Role fields are twice the role's
-number, plus 1 for the inverse.
+kind may have, stand apart: whose statement it was, 0 for the shared book, and the first and the last day on which
+it is in force. Role fields are twice the role's number, plus 1 for the inverse.
 """
 import struct
 from collections import namedtuple
@@ -23,7 +23,7 @@ STATEMENT_MAPS = {
     DOMAIN: (0x11,), RANGE: (0x11,), SAME: (0xC0,), CLASS_ASSERTION: (0x50,), ROLE_ASSERTION: (0xC1,),
 }
 # the fields that every kind may have, behind its own: bit of the map, limit, and the value of an absent one, which is never written
-MARKS = {'source': (8, 1024, 0)}
+MARKS = {'source': (8, 1024, 0), 'first': (9, 65536, 0), 'last': (10, 65536, 65535)}
 Marks = namedtuple('Marks', MARKS, defaults=[absent for _, _, absent in MARKS.values()])
 UNMARKED = Marks()
 MARK_BITS = sum(1 << bit for bit, _, _ in MARKS.values())
@@ -43,6 +43,12 @@ class Book:
     def __init__(self, counts, concepts, statements, marks=None):
         self.counts, self.concepts, self.statements = counts, concepts, statements
         self.marks = [UNMARKED] * len(statements) if marks is None else marks
+
+    def part(self, kept):
+        """The book with only those statements of whose marks `kept` says so."""
+        left = [n for n, marks in enumerate(self.marks) if kept(marks)]
+        counts = [*self.counts[:STATEMENTS], len(left)]
+        return Book(counts, self.concepts, [self.statements[n] for n in left], [self.marks[n] for n in left])
 
 
 class Cursor:
@@ -120,6 +126,8 @@ def read_statement(cursor, counts):
     limits = (role, role, role, role, concept, concept, individual, individual)
     fields = [cursor.below(limits[bit]) for bit in range(8) if own >> bit & 1]
     marks = Marks(*(cursor.mark(limit, absent) if map_ >> bit & 1 else absent for bit, limit, absent in MARKS.values()))
+    if marks.last < marks.first:
+        raise Refused(16, cursor.at)
     return (kind, own, fields), marks
 
 

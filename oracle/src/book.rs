@@ -50,17 +50,23 @@ pub struct Concept {
     pub bound: u32,
 }
 
-/// The bit of a statement's map that says that it has a source, and the limit of that.
+/// The bits of a statement's map that say that it has a source, a first day and a last day; the limit of the first, and the
+/// last day of all, which an absent one has.
 const SOURCE: u16 = 0x0100;
+const FIRST: u16 = 0x0200;
+const LAST: u16 = 0x0400;
 pub const SOURCES: usize = 1024;
+pub const LAST_OF_ALL: u16 = 65535;
 
 /// The fields stand in the order of their bits. A role field is twice the role's number, plus 1 for the inverse. The
-/// source is 0 for the shared book.
+/// source is 0 for the shared book; both days belong to the period.
 #[derive(Clone, PartialEq, Eq, Debug)]
 pub struct Statement {
     pub kind: u8,
     pub fields: Vec<u16>,
     pub source: u16,
+    pub first: u16,
+    pub last: u16,
 }
 
 #[derive(Clone, PartialEq, Eq, Debug, Default)]
@@ -95,7 +101,7 @@ impl Concept {
 
 impl Statement {
     pub fn new(kind: u8, fields: &[u16]) -> Self {
-        Self { kind, fields: fields.to_vec(), source: 0 }
+        Self { kind, fields: fields.to_vec(), source: 0, first: 0, last: LAST_OF_ALL }
     }
 
     /// How many fields a statement of the kind may have.
@@ -104,6 +110,17 @@ impl Statement {
             SUB_ROLE => vec![2, 3, 4],
             _ => vec![STATEMENT_MAPS[kind as usize].count_ones() as usize],
         }
+    }
+
+    /// Source and days, as far as the statement has them, each with its bit.
+    fn marks(&self) -> Vec<(u16, u16)> {
+        let all = [(SOURCE, self.source, 0), (FIRST, self.first, 0), (LAST, self.last, LAST_OF_ALL)];
+        all.into_iter().filter(|&(_, n, absent)| n != absent).map(|(bit, n, _)| (bit, n)).collect()
+    }
+
+    /// Whether it has a source or days.
+    pub fn marked(&self) -> bool {
+        !self.marks().is_empty()
     }
 
     /// The bits of the kind's own fields.
@@ -201,8 +218,9 @@ impl Book {
 
     fn read_statement(&self, cursor: &mut Cursor, concepts: usize) -> Result<Statement, String> {
         let (kind, map) = (cursor.number(1)? as u8, cursor.number(2)? as u16);
-        let mut statement = Statement::new(kind, &vec![0; (map & !SOURCE).count_ones() as usize]);
-        if !KINDS.contains(&kind) || statement.map() != map & !SOURCE {
+        let own = map & !(SOURCE | FIRST | LAST);
+        let mut statement = Statement::new(kind, &vec![0; own.count_ones() as usize]);
+        if !KINDS.contains(&kind) || statement.map() != own {
             return Err(format!("a statement has kind {kind} with map {map:02x}"));
         }
         for i in 0..statement.fields.len() {
@@ -214,6 +232,21 @@ impl Book {
             if statement.source == 0 {
                 return Err("a written source 0".into());
             }
+        }
+        if map & FIRST != 0 {
+            statement.first = cursor.number(2)? as u16;
+            if statement.first == 0 {
+                return Err("a written first day 0".into());
+            }
+        }
+        if map & LAST != 0 {
+            statement.last = cursor.number(2)? as u16;
+            if statement.last == LAST_OF_ALL {
+                return Err("a written last day 65,535".into());
+            }
+        }
+        if statement.last < statement.first {
+            return Err("a last day before the first".into());
         }
         Ok(statement)
     }
@@ -236,9 +269,10 @@ impl Book {
         }
         for statement in &self.statements {
             out.push(statement.kind);
-            put(&mut out, statement.map() | if statement.source == 0 { 0 } else { SOURCE });
+            let marks = statement.marks();
+            put(&mut out, statement.map() | marks.iter().map(|&(bit, _)| bit).sum::<u16>());
             statement.fields.iter().for_each(|&n| put(&mut out, n));
-            Some(statement.source).filter(|&n| n != 0).into_iter().for_each(|n| put(&mut out, n));
+            marks.iter().for_each(|&(_, n)| put(&mut out, n));
         }
         out
     }
@@ -263,9 +297,11 @@ impl Book {
         self.statements.push(Statement::new(kind, fields));
     }
 
-    /// The book with every statement in the shared book.
+    /// The book with every statement in the shared book and in force every day.
     pub fn shared(mut self) -> Self {
-        self.statements.iter_mut().for_each(|statement| statement.source = 0);
+        for statement in &mut self.statements {
+            (statement.source, statement.first, statement.last) = (0, 0, LAST_OF_ALL);
+        }
         self
     }
 

@@ -1,6 +1,6 @@
 //! Random books: each is fixed by its profile, a seed and its place in the run.
 
-use crate::book::{self, Book, Concept, Statement, CLASSES, INDIVIDUALS, LIMITS, ROLES, SOURCES};
+use crate::book::{self, Book, Concept, Statement, CLASSES, INDIVIDUALS, LAST_OF_ALL, LIMITS, ROLES, SOURCES};
 use crate::profile::{Mix, Profile, PATH_OF_THREE, PATH_OF_TWO};
 use crate::random::Random;
 
@@ -196,8 +196,8 @@ pub fn book(profile: Profile, seed: u64, place: u64) -> Book {
     draft.book
 }
 
-/// Gives statements sources: none in half of the books, else from a few numbers or from all. What a book says was drawn
-/// before, so it does not depend on this.
+/// Gives statements sources and days: none in half of the books, else from a few numbers or from all. What a book says was
+/// drawn before, so it does not depend on this.
 fn sign(book: &mut Book, random: &mut Random) {
     if random.percent(50) {
         return;
@@ -206,6 +206,11 @@ fn sign(book: &mut Book, random: &mut Random) {
     for statement in &mut book.statements {
         if random.percent(70) {
             statement.source = random.below(most) as u16;
+        }
+        if random.percent(40) {
+            let days = [random.below(9), random.below(1 << 16)];
+            let day = days[random.below(2)] as u16;
+            (statement.first, statement.last) = [(day, LAST_OF_ALL), (0, day), (day, day.saturating_add(7))][random.below(3)];
         }
     }
 }

@@ -3,7 +3,7 @@
 //!     oracle compare [--books N] [--seed S] [--profile NAME] [--server COMMAND ..]
 //!         random books through both sides; the last line counts how many were compared fully, partly and not, and
 //!         the disagreements; column `turned` counts the books with a statement that is turned round for the Rust (see
-//!         rust.rs), column `signed` those with a source, of which the Rust is told nothing. Ours is the linked library, or the process that COMMAND starts (see ours.rs).
+//!         rust.rs), column `signed` those with a source or days, of which the Rust is told nothing. Ours is the linked library, or the process that COMMAND starts (see ours.rs).
 //!     oracle small [--server COMMAND ..]
 //!         the same for every small book (see small.rs)
 //!     oracle book PROFILE SEED PLACE
@@ -101,7 +101,7 @@ impl Tally {
         self.books += 1;
         self.clashes += u64::from(matches!(ours, oracle::ours::End::Clash { .. }));
         self.turned += u64::from(rust::turns(book));
-        self.signed += u64::from(book.statements.iter().any(|s| s.source != 0));
+        self.signed += u64::from(book.statements.iter().any(|s| s.marked()));
         match compare(book, &ours) {
             Verdict::Fully(Rule::OneFiller) => self.one_filler += 1,
             Verdict::Fully(_) => self.nothing_brought += 1,

@@ -97,7 +97,7 @@ pub fn ontology(mut book: Book) -> InternalOntology {
 }
 
 /// The book as the Rust takes it. Numbers stay as they are; concepts and statements go in as they are written, without
-/// their sources.
+/// their sources and days.
 fn as_written(book: &Book) -> InternalOntology {
     let mut pool = ConceptPool::new();
     let mut ids: Vec<ConceptId> = Vec::new();

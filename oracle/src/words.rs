@@ -1,6 +1,6 @@
 //! A book as text.
 
-use crate::book::{Book, Sort, ATOMIC, BOT, MAX, MIN, NOMINAL, TOP};
+use crate::book::{Book, Sort, ATOMIC, BOT, LAST_OF_ALL, MAX, MIN, NOMINAL, TOP};
 
 const CONCEPT_NAMES: [&str; 12] =
     ["Top", "Bot", "Atomic", "Nominal", "Self", "Not", "And", "Or", "Some", "All", "Min", "Max"];
@@ -60,7 +60,8 @@ impl Book {
             });
             let name = STATEMENT_NAMES[statement.kind as usize];
             let source = Some(statement.source).filter(|&n| n != 0).map_or(String::new(), |n| format!(", source {n}"));
-            out += &format!("{name}({}){source}\n", fields.collect::<Vec<_>>().join(", "));
+            let days = if (statement.first, statement.last) == (0, LAST_OF_ALL) { String::new() } else { format!(", days {} to {}", statement.first, statement.last) };
+            out += &format!("{name}({}){source}{days}\n", fields.collect::<Vec<_>>().join(", "));
         }
         out
     }

@@ -7,7 +7,7 @@ import sys
 
 import book_format as f
 
-from . import conclusions, library, names, readers, words
+from . import conclusions, days, library, names, readers, words
 from .packer import MOST_BYTES, Packer
 from .source import AT_FAULT, DONE, NOT_RUN, Source, Stop, decoded, read_bytes
 from .text import Writer, counted, summary
@@ -42,9 +42,12 @@ over owl:Thing, owl:Nothing, classes, and ObjectIntersectionOf, ObjectUnionOf, O
 ObjectSomeValuesFrom, ObjectAllValuesFrom, ObjectHasValue, ObjectHasSelf, ObjectMin-, -Max- and -ExactCardinality,
 and over roles and ObjectInverseOf. Longer lists become pairs: neighbours for SameIndividual, all pairs elsewhere;
 a repeated member counts once. Everything else is left out and counted on standard error; annotations are passed over,
-but for one: Annotation(rdfs:isDefinedBy :workshop) in an axiom says whose statement it was. Its sources are numbered
+but for three. Annotation(rdfs:isDefinedBy :workshop) in an axiom says whose statement it was. Its sources are numbered
 from 1 and named in FILE.names; where that file is there already, a source in it keeps its number. An axiom without one
-is the shared book's, and one with several is stated by each.
+is the shared book's, and one with several is stated by each. Annotation(schema:validFrom "2026-01-12") and
+Annotation(schema:validThrough "2026-04-30"), with Prefix(schema:=<http://schema.org/>), say the first and the last day
+on which it is in force, both among them, from 2000-01-01 to 2179-06-06; without them it is in force from the first of
+these days, or to the last. An axiom with two periods stands twice.
 
 A book has at most 256 classes, 64 roles, 512 individuals, 4,096 concepts, 4,096 statements and 1,023 sources, and for the
 program 65,536 bytes. A declared name counts, also where no axiom uses it.
@@ -52,7 +55,7 @@ program 65,536 bytes. A declared name counts, also where no axiom uses it.
 SHOWN = '''A book may have an ObjectIntersectionOf or ObjectUnionOf of one part or none. It is shown as it stands and
 packed again as it is shown, but it is not legal OWL, which wants two parts, and OWL editors refuse it.
 '''
-CLEANED = f'''A repeat has the kind, the fields and the source of an earlier statement; the first of each is kept, and nothing else changes,
+CLEANED = f'''A repeat has the kind, the fields, the source and the days of an earlier statement; the first of each is kept, and nothing else changes,
 so every run of the written book ends as before. The proved library writes it; `{library.BUILD}` builds that.
 '''
 SMALL = f'''The books with one class, one role, two individuals, the concept Atomic 0 and at most two statements: 3,783 of
@@ -70,7 +73,9 @@ error says of left out axioms and faults is about the whole file. The file has a
 # starts a comment:
   inspector: :north south:workshop
   visitor:
-The proved library draws the conclusions, with the budget that they need where no --budget is given.
+With --day the conclusions are those of the statements in force that day, such as 2026-11-15; with both, of those among
+them that the reader may read. Without it they are those of all statements, whatever their days.
+For a reader or a day the proved library draws the conclusions, with the budget that they need where no --budget is given.
 '''
 NEEDED = SYNTAXES + f'''
 The figure is worked out without a run, by the proved library; `{library.BUILD}` builds that. A run with a budget of at
@@ -205,10 +210,10 @@ def need(args):
 
 
 def conclude(args):
-    if args.reader is not None:
-        return conclude_for(args)
-    if args.readers:
+    if args.readers and args.reader is None:
         raise Stop(NOT_RUN, '--readers says who may read what, for the one that --reader names')
+    if args.reader is not None or args.day is not None:
+        return conclude_part(args)
     packer = packed(args.file, args.strict, MOST_BYTES if args.budget is None else None)
     data = packer.data()
     book = f.read(data)
@@ -219,22 +224,28 @@ def conclude(args):
     return status
 
 
-def conclude_for(args):
-    """What one reader may conclude. The run is on the whole book; what is printed, and the budget, come from his part of it."""
+def conclude_part(args):
+    """What one reader may conclude, or is concluded on a day, or both. The run is on the whole book; what is printed, and the
+    budget, come from the part of it that counts."""
     if args.program:
-        raise Stop(NOT_RUN, '--reader takes the library: the program names no reader')
+        option, what = ('--day', 'day') if args.reader is None else ('--reader', 'reader')
+        raise Stop(NOT_RUN, f'{option} takes the library: the program names no {what}')
     packer = packed(args.file, args.strict, None)
     data, given = packer.data(), packer.names()
-    reader = chosen_reader(args.readers or re.sub(SUFFIX, '', args.file) + '.readers', args.reader, given)
-    part = readers.part(f.read(data), reader)
+    part, reader = f.read(data), None
+    if args.reader is not None:
+        reader = chosen_reader(args.readers or re.sub(SUFFIX, '', args.file) + '.readers', args.reader, given)
+        part = readers.part(part, reader)
+    if args.day is not None:
+        part = days.part(part, args.day)
     try:
         budget = args.budget
         if budget is None:
             budget = min(library.figure(written(part))[1], library.MOST_BUDGET)
-        run = conclusions.run_library(data, part.counts, budget, reader)
+        run = conclusions.run_library(data, part.counts, budget, reader, args.day)
     except library.NotBuilt as missing:
         raise Stop(NOT_RUN, str(missing)) from None
-    status, text = conclusions.write(run, part, len(data), given, budget, reader)
+    status, text = conclusions.write(run, part, len(data), given, budget, reader, args.day)
     print(text, end='')
     return status
 
@@ -288,6 +299,14 @@ def budget(text):
     return int(text)
 
 
+def day(text):
+    """A date on the command line."""
+    try:
+        return days.number(text)
+    except ValueError as wrong:
+        raise argparse.ArgumentTypeError(str(wrong)) from None
+
+
 def position(text):
     """A position on the command line."""
     if not re.fullmatch('[0-9]{1,19}', text):
@@ -321,6 +340,7 @@ def arguments():
     command('need', need, 'tells how many types and edges the conclusions of FILE can have at most, and the budget to give', NEEDED)
     made = command('conclude', conclude, 'packs FILE, runs the book and prints what it concludes, told and derived apart', CONCLUDED)
     made.add_argument('--reader', metavar='NAME', help='conclude what this reader may read')
+    made.add_argument('--day', metavar='DATE', type=day, help='conclude what is in force on this day, such as 2026-11-15')
     made.add_argument('--readers', metavar='FILE.readers', help='who may read which workshop; FILE with .readers in place of its ending else')
     made = made.add_mutually_exclusive_group()
     made.add_argument('--budget', metavar='N', type=budget, help='run the library, with a budget of N facts, up to 1000000')

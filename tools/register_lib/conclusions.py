@@ -6,16 +6,17 @@ from collections import namedtuple
 
 import book_format as f
 
-from . import library
-from .text import counted, document, sourced
+from . import days, library
+from .text import counted, document, periods, sourced
 from .tokens import Fault
 
 FINISHED, CLASH, SPENT, REFUSED = 0, 3, 4, 5  # exit statuses
 NUMBER = '[0-9]{1,9}'
 CAUSES = {
-    4: 'the book ends before a record is complete', 5: 'header bit 5 to 7, or a written count or source 0', 6: 'a count above its limit',
+    4: 'the book ends before a record is complete', 5: 'header bit 5 to 7, or a written count 0, source 0, first day 0 or last day 65,535', 6: 'a count above its limit',
     7: 'an unknown kind', 8: 'a map that its kind does not have', 9: 'a number out of range', 10: 'bytes behind the last statement',
     11: "more same pairs than the program's list holds (2,000 for saturate)", 14: 'a reader above 31', 15: 'a table of another length than 1,024 words',
+    16: 'a last day before the first',
 }
 
 # the end's word, its numbers, and the listed facts, such as ('t', individual, class)
@@ -53,12 +54,14 @@ def read(output, counts):
     return Run(word, numbers, [(fact[0], *map(int, fact[1:])) for fact in facts])
 
 
-def run_library(data, counts, budget, reader=None):
-    """The run of the library, for a reader where one is given, with a pair list that has room for every pair of the book's
-    individuals."""
+def run_library(data, counts, budget, reader=None, day=None):
+    """The run of the library, for a reader and as of a day where they are given, with a pair list that has room for every pair of
+    the book's individuals."""
     individuals = counts[f.INDIVIDUALS]
     rooms = 2 * budget, 3 * budget, individuals * (individuals - 1)
-    got = library.saturate_for(data, budget, *rooms, reader.number, reader.table) if reader else library.saturate(data, budget, *rooms)
+    who, when = [reader.number, reader.table] if reader else [], [] if day is None else [day]
+    function = [[library.saturate, library.saturate_on], [library.saturate_for, library.saturate_for_on]][bool(who)][bool(when)]
+    got = function(data, budget, *rooms, *who, *when)
     numbers = [got.type_count, got.edge_count, got.pair_count]
     if got.end != library.FINISHED:
         word = {library.CLASH: 'clash', library.SPENT: 'spent'}.get(got.end, 'refused')
@@ -134,34 +137,43 @@ def section(title, facts, names, outright=None, reader=None):
             yield f'SameIndividual({whose}{" ".join(words)})'
 
 
-def advice(counts, budget, reader=None):
+def advice(counts, budget, reader=None, day=None):
     """How a run with a larger budget is had: with the bound of the book's counts, or the largest there is."""
     classes, roles, individuals = counts[:3]
     enough = min(individuals * classes + roles * individuals ** 2, library.MOST_BUDGET)
     if budget >= enough:
         return 'There is no larger budget.'
-    who = f' --reader {reader.name}' if reader else ''
-    return f'With a larger one, by the proved library: tools/register conclude --budget {enough}{who} FILE'
+    named = (f' --reader {reader.name}' if reader else '') + ('' if day is None else f' --day {days.written(day)}')
+    return f'With a larger one, by the proved library: tools/register conclude --budget {enough}{named} FILE'
 
 
-def write(run, book, size, names, budget=None, reader=None):
+def named_by(names, book, reader, day):
+    """The lines that say of which statements the conclusions are."""
+    if reader:
+        yield f'for {reader.name}, who may read the shared book' + ''.join(f', {names.source(n)}' for n in reader.sources)
+    if day is not None:
+        yield f'on {days.written(day)}'
+    elif periods(book):
+        yield f'of all days, with {counted(len(periods(book)), "period")}; conclude --day 2026-11-15 takes one day'
+
+
+def write(run, book, size, names, budget=None, reader=None, day=None):
     """(exit status, text) of a run of the program, or of the library with a budget: a document after finished, told and
-    derived apart, and a sentence after any other end. Of a run for a reader the book is the part that he may read."""
+    derived apart, and a sentence after any other end. Of a run for a reader or a day the book is the part that counts."""
     word, numbers, facts = run
     if word == 'finished':
         outright = told(book)
         body = [*section('told', [x for x in facts if x in outright], names, outright, reader),
                 *section('derived', [x for x in facts if x not in outright], names, reader=reader)]
-        head = [f'for {reader.name}, who may read the shared book' + ''.join(f', {names.source(n)}' for n in reader.sources)] if reader else []
-        return FINISHED, document(names, ['finished: ' + tally(*numbers), *head], body)
+        return FINISHED, document(names, ['finished: ' + tally(*numbers), *named_by(names, book, reader, day)], body)
     if word == 'clash':
         sizes = f'{counted(numbers[0], "type")} and {counted(numbers[1], "edge")}'
-        which = f'what {reader.name} may read of this register' if reader else 'this register'
+        which = (f'what {reader.name} may read of this register' if reader else 'this register') + ('' if day is None else f' on {days.written(day)}')
         return CLASH, f'clash: no world fits {which}; its smallest sets have {sizes}.\n'
     if word == 'spent':
         which = "the program's budget (4,000 for saturate)" if budget is None else f'the budget of {budget:,}'
         return SPENT, (f'spent: the conclusions have more types and edges than {which}.\n'
-                       f'{advice(book.counts, budget or 0, reader)}\n')
+                       f'{advice(book.counts, budget or 0, reader, day)}\n')
     if word == 'long':
         return REFUSED, f'long: the book has {size:,} bytes, more than the program reads (65,536 for saturate).\n'
     cause = CAUSES.get(numbers[0], 'a number that the program does not document')

@@ -42,12 +42,25 @@ def saturate_for(book, budget, type_room, edge_room, pair_room, reader, table, f
     return run('zamoluvel_saturate_for', book, budget, (type_room, edge_room, pair_room), fill, reader, words, len(words))
 
 
+def saturate_on(book, budget, type_room, edge_room, pair_room, day, fill=0):
+    """A run as of a day, by number."""
+    return run('zamoluvel_saturate_on', book, budget, (type_room, edge_room, pair_room), fill, day)
+
+
+def saturate_for_on(book, budget, type_room, edge_room, pair_room, reader, table, day, fill=0):
+    """A run for a reader as of a day."""
+    words = (ctypes.c_uint32 * len(table))(*table)
+    return run('zamoluvel_saturate_for_on', book, budget, (type_room, edge_room, pair_room), fill, reader, words, len(words), day)
+
+
 def run(function, book, budget, rooms, fill, *named):
     lists = [(ctypes.c_uint32 * room)(*[fill] * room) if fill else (ctypes.c_uint32 * room)() for room in rooms]
-    counts = [ctypes.c_uint32() for _ in range(3)]
+    counts = (ctypes.c_uint32 * 3)()
     lent = [word for entries in lists for word in (entries, len(entries))]
-    end = called(function, book, len(book), budget, *lent, *named, *map(ctypes.byref, counts))
-    return Run(end, *(count.value for count in counts), *lists)
+    places = [ctypes.cast(ctypes.byref(counts, 4 * n), ctypes.POINTER(ctypes.c_uint32)) for n in range(3)]
+    # a run as of a day writes the three counts to one array
+    end = called(function, book, len(book), budget, *lent, *named, *places[:1 if function.endswith('_on') else 3])
+    return Run(end, *counts, *lists)
 
 
 def named_part(end, edge_count, pair_count, named):
@@ -112,6 +125,8 @@ def opened():
         'zamoluvel_figure': (number, ctypes.c_char_p, size, numbers),
         'zamoluvel_saturate': (number, ctypes.c_char_p, size, ctypes.c_uint64, *[numbers, size] * 3, *[numbers] * 3),
         'zamoluvel_saturate_for': (number, ctypes.c_char_p, size, ctypes.c_uint64, *[numbers, size] * 3, number, numbers, size, *[numbers] * 3),
+        'zamoluvel_saturate_on': (number, ctypes.c_char_p, size, ctypes.c_uint64, *[numbers, size] * 3, ctypes.c_uint16, numbers),
+        'zamoluvel_saturate_for_on': (number, ctypes.c_char_p, size, ctypes.c_uint64, *[numbers, size] * 3, number, numbers, size, ctypes.c_uint16, numbers),
         'zamoluvel_named_part': (size, *[number] * 4),
         'zamoluvel_small_book': (size, ctypes.c_uint64, ctypes.c_char_p, size),
         'zamoluvel_check_rows': (number, ctypes.c_char_p, size, numbers, size, ctypes.POINTER(size)),

@@ -4,6 +4,7 @@ import re
 
 import book_format as f
 
+from . import words
 from .syntax import OWL, STANDARD_PREFIXES, unescaped
 from .tokens import PREFIX, SHORT, TOKEN, Fault
 
@@ -12,6 +13,7 @@ OWN = ('book:', 'urn:example:book#')  # names where none are given: book:C0, boo
 MOST_SOURCES = f.MARKS['source'][1] - 1
 TOP, BOTTOM = OWL + 'Thing', OWL + 'Nothing'
 PREFIX_LINE = rf'Prefix\(({PREFIX})=<([^\s<>]*)>\)'
+WRITTEN_PREFIXES = {**STANDARD_PREFIXES, 'schema:': words.SCHEMA[0]}  # beside those of a register
 BUILT_IN_ROLES = (OWL + 'topObjectProperty', OWL + 'bottomObjectProperty')
 
 
@@ -19,7 +21,7 @@ class Names:
     """`sources` has the names of those numbers that have one."""
 
     def __init__(self, prefixes, classes, roles, individuals, sources=()):
-        self.prefixes = {**prefixes, **{p: iri for p, iri in STANDARD_PREFIXES.items() if p not in prefixes}}
+        self.prefixes = {**prefixes, **{p: iri for p, iri in WRITTEN_PREFIXES.items() if p not in prefixes}}
         self.lists, self.sources = (classes, roles, individuals), dict(sources)
         self.by_length = sorted(self.prefixes.items(), key=lambda item: -len(item[1]))
         self.used, self.known = set(), {}

@@ -1,13 +1,14 @@
 """From trees to a book. Classes, roles and individuals are numbered by first mention, anonymous individuals behind the
 others; equal class expressions have one number, parts before wholes. What a book cannot hold takes no numbers. The source
-of a statement is the workshop that an annotation of its axiom names; a source keeps the number that it is known by."""
+of a statement is the workshop that an annotation of its axiom names; a source keeps the number that it is known by. Its days
+are the dates of two further annotations."""
 from itertools import combinations, islice
 
 import book_format as f
 
-from . import words
+from . import days, words
 from .names import BOTTOM, BUILT_IN_ROLES, MOST_SOURCES, TOP, Names, own_source
-from .syntax import OWL, UNNAMED, Name, Node, Number, Parser
+from .syntax import OWL, UNNAMED, Literal, Name, Node, Number, Parser
 from .tokens import Fault
 
 MOST_BYTES = 65536  # of a book that the program reads
@@ -21,6 +22,24 @@ class LeftOut(Exception):
     """Why a book cannot hold an axiom; empty where no statement is of its kind."""
 
 
+def said_by(annotations, properties):
+    """The values of the annotations that have one of some properties."""
+    for annotation in annotations:
+        args = [arg for arg in annotation.args if not isinstance(arg, Node)]
+        if len(args) == 2 and isinstance(args[0], Name) and args[0].iri in properties:
+            yield args[1]
+
+
+def day_of(value):
+    """The day that a literal says."""
+    if not isinstance(value, Literal):
+        raise Fault('expected a date such as "2026-11-15"', value.at)
+    try:
+        return days.number(value.text[1:-1])
+    except ValueError as wrong:
+        raise Fault(str(wrong), value.at) from None
+
+
 class Packer:
     def __init__(self, text, known=()):
         """`known` has the names of sources by their numbers."""
@@ -28,7 +47,7 @@ class Packer:
         self.items, self.prefixes = parser.document(), parser.prefixes
         # each table: key to (number, offset of the first mention); an individual stays its name until the end
         self.classes, self.roles, self.individuals, self.concepts = self.tables = {}, {}, {}, {}
-        # each statement as (record, its source); a source is its name, or None for the shared book
+        # each statement as (record, its source, its days); a source is its name, or None for the shared book
         self.statements, self.told, self.first_over = [], 0, None
         self.sources, self.known = {}, dict(known)  # of each source in statements, the offset of its first mention
         self.left_out = {}  # kind: [how often, offset of the first]
@@ -55,7 +74,7 @@ class Packer:
         if node.word == 'Declaration':
             self.declare(node, args)
         elif node.word in words.STATEMENTS:
-            self.state(node, args, self.sources_of(annotations))
+            self.state(node, args, self.sources_of(annotations), self.days_of(annotations))
         elif node.word in words.UNHELD:
             raise LeftOut
         elif node.word not in words.SILENT:
@@ -78,15 +97,29 @@ class Packer:
     def sources_of(self, annotations):
         """The workshops that annotations of an axiom name, each once; the shared book where there is none."""
         found = {}
-        for annotation in annotations:
-            args = [arg for arg in annotation.args if not isinstance(arg, Node)]
-            if len(args) == 2 and isinstance(args[0], Name) and args[0].iri == words.SOURCE:
-                if not isinstance(args[1], Name) or args[1].iri.startswith('_:'):
-                    raise LeftOut('an rdfs:isDefinedBy that is no name')
-                found.setdefault(args[1].iri, args[1].at)
+        for value in said_by(annotations, [words.SOURCE]):
+            if not isinstance(value, Name) or value.iri.startswith('_:'):
+                raise LeftOut('an rdfs:isDefinedBy that is no name')
+            found.setdefault(value.iri, value.at)
         return found or {None: None}
 
-    def state(self, node, args, sources):
+    def days_of(self, annotations):
+        """The first and the last day that annotations of an axiom say, those of a book where there are none."""
+        found, at = [], None
+        for properties, absent in ((words.FIRST_DAY, f.UNMARKED.first), (words.LAST_DAY, f.UNMARKED.last)):
+            numbers = {}
+            for value in said_by(annotations, properties):
+                numbers.setdefault(day_of(value), value.at)
+            if len(numbers) > 1:
+                which = 'first' if properties is words.FIRST_DAY else 'last'
+                raise Fault(f'a statement has one {which} day; for two periods the axiom stands twice', max(numbers.values()))
+            at = min(numbers.values(), default=at)
+            found.append(min(numbers, default=absent))
+        if found[1] < found[0]:
+            raise Fault(f'the last day, {days.written(found[1])}, is before the first, {days.written(found[0])}', at)
+        return found
+
+    def state(self, node, args, sources, period):
         """The statements of an axiom, for each of its sources: one, or pairs of a list (neighbours for SameIndividual, all
         pairs elsewhere). A member that is repeated counts once; one that is alone is paired with itself."""
         kind, form = words.STATEMENTS[node.word]
@@ -96,19 +129,19 @@ class Packer:
             members *= 2 if len(members) == 1 else 1
             n = len(members)
             if kind == f.SAME:
-                self.tell(((kind, *pair) for pair in zip(members, members[1:])), n - 1, node.at, sources)
+                self.tell(((kind, *pair) for pair in zip(members, members[1:])), n - 1, node.at, sources, period)
             else:
-                self.tell(((kind, *pair) for pair in combinations(members, 2)), n * (n - 1) // 2, node.at, sources)
+                self.tell(((kind, *pair) for pair in combinations(members, 2)), n * (n - 1) // 2, node.at, sources, period)
         else:
             fields = [field for letter, arg in zip(form, args) for field in self.fields(letter, arg)]
-            self.tell([(kind, *fields)], 1, node.at, sources)
+            self.tell([(kind, *fields)], 1, node.at, sources, period)
 
-    def tell(self, records, count, at, sources):
+    def tell(self, records, count, at, sources, period):
         """Keeps statements as far as a book has room; the others are counted."""
         room = f.LIMITS[f.STATEMENTS] - len(self.statements)
         if self.first_over is None and count * len(sources) > room:
             self.first_over = at
-        self.statements += islice(((record, source) for record in records for source in sources), room)
+        self.statements += islice(((record, source, period) for record in records for source in sources), room)
         self.told += count * len(sources)
         for source, mentioned in sources.items():
             if source:
@@ -261,7 +294,7 @@ class Packer:
         """The bytes of the book, where no limit of its counts is exceeded."""
         number = {name: n for n, name in enumerate(self.names().lists[f.INDIVIDUALS])}
         concepts, statements = ([tuple(number.get(x, x) for x in record) for record in records]
-                                for records in (self.concepts, [record for record, _ in self.statements]))
+                                for records in (self.concepts, [record for record, _, _ in self.statements]))
         sources = self.source_numbers()
-        marks = [f.Marks(sources[source]) if source else f.UNMARKED for _, source in self.statements]
+        marks = [f.Marks(sources[source] if source else 0, *period) for _, source, period in self.statements]
         return f.write([len(table) for table in self.tables[:3]], concepts, statements, marks)

@@ -69,7 +69,4 @@ def chosen(readers, name):
 
 def part(book, reader):
     """The book with only the statements that a reader may read."""
-    left = [n for n, marks in enumerate(book.marks) if marks.source in (0, *reader.sources)]
-    counts = [*book.counts]
-    counts[f.STATEMENTS] = len(left)
-    return f.Book(counts, book.concepts, [book.statements[n] for n in left], [book.marks[n] for n in left])
+    return book.part(lambda marks: marks.source in (0, *reader.sources))

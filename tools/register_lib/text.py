@@ -1,7 +1,7 @@
 """From a book to functional-style syntax: the numbers' declarations in order, then one axiom a statement."""
 import book_format as f
 
-from . import words
+from . import days, words
 from .names import BOTTOM, TOP
 from .tokens import Fault
 
@@ -15,15 +15,27 @@ def counted(n, one, many=None):
 
 
 def summary(book):
-    """The counts of a book's header in words, and how many sources its statements have."""
+    """The counts of a book's header in words, and how many sources and periods its statements have."""
     nouns, sources = ('role', 'individual', 'concept', 'statement'), {marks.source for marks in book.marks} - {0}
     counts = [counted(book.counts[0], 'class', 'classes'), *map(counted, book.counts[1:], nouns)]
-    return ', '.join(counts + [counted(len(sources), 'source')] * bool(sources))
+    more = [counted(len(found), what) for found, what in ((sources, 'source'), (periods(book), 'period')) if found]
+    return ', '.join(counts + more)
+
+
+def periods(book):
+    """The different periods of a book's statements, that of all days apart."""
+    return {marks[1:] for marks in book.marks} - {f.UNMARKED[1:]}
 
 
 def sourced(names, sources):
     """The annotations that name sources, with a space behind each."""
     return ''.join(f'Annotation({names.short(words.SOURCE)} {names.source(n)}) ' for n in sources)
+
+
+def dated(names, marks):
+    """The annotations that say a statement's days, as far as it has them, with a space behind each."""
+    said = [(words.FIRST_DAY, marks.first, f.UNMARKED.first), (words.LAST_DAY, marks.last, f.UNMARKED.last)]
+    return ''.join(f'Annotation({names.short(iris[0])} "{days.written(day)}"^^{names.short(words.DATE)}) ' for iris, day, absent in said if day != absent)
 
 
 def document(names, head, body):
@@ -75,7 +87,7 @@ class Writer:
             form = words.STATEMENTS[words.STATEMENT_WORDS[kind]][1]
             written = {'C': self.concept, 'R': n.role, 'I': lambda i: n.of(f.INDIVIDUALS, i)}
             args = [written[letter](field) for letter, field in zip(form[0] * 2 if form[-1] == '2' else form, v)]
-        return f'{words.STATEMENT_WORDS[kind]}({sourced(n, whose)}{" ".join(args)})'
+        return f'{words.STATEMENT_WORDS[kind]}({sourced(n, whose)}{dated(n, marks)}{" ".join(args)})'
 
     def concept(self, c):
         """A concept as text. What waits is kept in a list, so depth is free."""

@@ -31,6 +31,12 @@ CONCEPT_WORDS = {kind: word for word, (kind, _) in CONCEPTS.items()}
 # the property of an annotation that says whose statement an axiom was
 SOURCE = 'http://www.w3.org/2000/01/rdf-schema#isDefinedBy'
 
+# and those that say the first and the last day on which it is in force; schema.org's names stand under two fronts, of which the
+# first is written
+SCHEMA = ('http://schema.org/', 'https://schema.org/')
+DATE = 'http://www.w3.org/2001/XMLSchema#date'  # the datatype of a day
+FIRST_DAY, LAST_DAY = ([front + name for front in SCHEMA] for name in ('validFrom', 'validThrough'))
+
 # without a meaning for worlds, so nothing is lost
 SILENT = {'Annotation', 'AnnotationAssertion', 'SubAnnotationPropertyOf', 'AnnotationPropertyDomain', 'AnnotationPropertyRange'}
 # what no statement of the book says, with the way to say it where the rules act on that

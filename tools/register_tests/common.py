@@ -64,7 +64,8 @@ def some_book(rng):
     if limits['C'] or counts[1] or counts[2]:
         statements = [record(forms) for _ in range(rng.randint(0, 16))]
     sources = rng.choice([[0], [0, 1, 2], [0, 7, 512, 1023]])
-    return f.write(counts, concepts, statements, [f.Marks(rng.choice(sources)) for _ in statements])
+    periods = rng.choice([[()], [(), (1, 9700), (9563,), (0, 0), (65535, 65535)]])
+    return f.write(counts, concepts, statements, [f.Marks(rng.choice(sources), *rng.choice(periods)) for _ in statements])
 
 
 class FileCase(unittest.TestCase):

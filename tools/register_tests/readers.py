@@ -20,9 +20,10 @@ REGISTER = f'''TransitiveObjectProperty({BY % 'w'}:p) ObjectPropertyAssertion({B
 ObjectPropertyAssertion(:p :c :d) ObjectPropertyAssertion({BY % 'u'}:p :a :c) ClassAssertion({BY % 'v'}{BY % 'w'}:A :a)'''
 
 
-def stand_in(book, budget, type_room, edge_room, pair_room, reader, table):
+def stand_in(book, budget, type_room, edge_room, pair_room, reader=None, table=None, day=None):
     """The run that the library makes, by the reference."""
-    line, *rows = reference.end(book, budget, type_room, edge_room, pair_room, reader=(reader, table))
+    named = None if reader is None else (reader, table)
+    line, *rows = reference.end(book, budget, type_room, edge_room, pair_room, reader=named, day=day)
     word, *numbers = line.split()
     numbers = [int(n) for n in numbers]
     end = library.REFUSED + numbers[0] if word == 'refused' else {'finished': library.FINISHED, 'clash': library.CLASH, 'spent': library.SPENT}[word]
@@ -42,7 +43,8 @@ class WithStandIn(FileCase):
     """Tests in which the reference stands for the library."""
 
     def setUp(self):
-        for name, function in (('saturate_for', stand_in), ('named_part', named_part), ('figure', lambda book: (library.FIGURE, reference.figure(book)))):
+        for name, function in (('saturate_for', stand_in), ('saturate_for_on', stand_in), ('saturate_on', lambda *args: stand_in(*args[:-1], day=args[-1])),
+                               ('named_part', named_part), ('figure', lambda book: (library.FIGURE, reference.figure(book)))):
             patch = mock.patch.object(library, name, function)
             patch.start()
             self.addCleanup(patch.stop)

@@ -141,7 +141,7 @@ within-same h m (ClassAssertion c i) w = w
 within-same h m (ObjectPropertyAssertion r i j) w = w
 
 pub record-same : (h : Counts) (m : ℕ) (x : Statement) → StatementWithin h x → StatementWithin (counting h m) x
-record-same h m x w = record { body = within-same h m (x .body) (w .body); source-top = w .source-top }
+record-same h m x w = record { body = within-same h m (x .body) (w .body); source-top = w .source-top; period = w .period; last-top = w .last-top }
 
 -- what holds of every record's statement
 pub every-body : (h : Counts) (xs : List Statement) → Every (StatementWithin h) xs → Every (Within h) (bodies xs)

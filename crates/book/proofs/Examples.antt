@@ -5,8 +5,6 @@ use mathlib.Core.Bool.{Bool, true, _&&_}
 use mathlib.Core.List.{List, [], _∷_}
 use lib.Dec.{eqb}
 use Rattle.book.specs.declared.role.Role.the-variants.{Named}
-use Rattle.book.specs.declared.statement.Axiom.{Axiom}
-use Rattle.book.specs.declared.statement.Statement.{Statement}
 use Rattle.book.specs.declared.statement.Axiom.the-variants.{SubClassOf, FunctionalRole, ObjectPropertyRange, ClassAssertion, ObjectPropertyAssertion}
 use Rattle.book.specs.Role.{roleOf}
 use Rattle.book.specs.Read.{several}
@@ -14,7 +12,7 @@ use Rattle.book.specs.Field.{byte, twoBytes, fourBytes, field, fieldsFro
 use Rattle.book.specs.Table.{statementAllows}
 use Rattle.book.specs.Header.{header}
 use Rattle.book.specs.Concept.{conceptStart, partList, bound, conceptTail, conceptRest, concept}
-use Rattle.book.specs.Statement.{statementStart, pathOf, axiomOf, statementRest, statement}
+use Rattle.book.specs.Statement.{statementStart, pathOf, axiomOf, bare, statementEnd, statementRest, statement}
 use Rattle.book.specs.Tree.{Atomic, Nominal, Some, partTrees}
 use Rattle.book.specs.Book.{Book, concepts, book, Decoded, accepted, refused, decode}
 
@@ -50,34 +48,30 @@ worked =
     ∷ 14 ∷ 0xC1 ∷ 0 ∷ 4 ∷ 0 ∷ 5 ∷ 0 ∷ 4 ∷ 0
     ∷ []
 
--- a statement of the shared book
-abbrev shared : Axiom → Statement
-shared a = record { body = a; source = 0 }
-
 pub workedBook : Book
 workedBook =
     record {
       counts = record { classes = 1; roles = 4; individuals = 7; concepts = 3; statements = 10 };
       concepts = Atomic 0 ∷ Nominal 6 ∷ Some (Named 3) (Nominal 6) ∷ [];
       statements =
-          shared (FunctionalRole (Named 0))
-          ∷ shared (FunctionalRole (Named 1))
-          ∷ shared (ObjectPropertyRange (Named 2) 0)
-          ∷ shared (SubClassOf 0 2)
-          ∷ shared (ClassAssertion 0 1)
-          ∷ shared (ObjectPropertyAssertion (Named 0) 0 1)
-          ∷ shared (ObjectPropertyAssertion (Named 0) 0 2)
-          ∷ shared (ObjectPropertyAssertion (Named 1) 3 2)
-          ∷ shared (ObjectPropertyAssertion (Named 1) 3 4)
-          ∷ shared (ObjectPropertyAssertion (Named 2) 5 4)
+          bare (FunctionalRole (Named 0))
+          ∷ bare (FunctionalRole (Named 1))
+          ∷ bare (ObjectPropertyRange (Named 2) 0)
+          ∷ bare (SubClassOf 0 2)
+          ∷ bare (ClassAssertion 0 1)
+          ∷ bare (ObjectPropertyAssertion (Named 0) 0 1)
+          ∷ bare (ObjectPropertyAssertion (Named 0) 0 2)
+          ∷ bare (ObjectPropertyAssertion (Named 1) 3 2)
+          ∷ bare (ObjectPropertyAssertion (Named 1) 3 4)
+          ∷ bare (ObjectPropertyAssertion (Named 2) 5 4)
           ∷ [];
     }
 
 worked-decodes : decode worked ≡ accepted workedBook
-unfolding worked workedBook decode book header concepts several concept conceptStart conceptRest conceptTail partList bound statement statementStart statementRest axiomOf pathOf statementAllows roleOf fields fieldsFrom field byte twoBytes fourBytes partTrees
+unfolding worked workedBook decode book header concepts several concept conceptStart conceptRest conceptTail partList bound statement statementStart statementRest statementEnd axiomOf pathOf statementAllows roleOf fields fieldsFrom field byte twoBytes fourBytes partTrees
 worked-decodes = refl
 
--- Sources: of a book of two individuals with one statement, `0 same as 1`, the high byte of its map and what stands behind its own fields, with
+-- Sources and days: of a book of two individuals with one statement, `0 same as 1`, the high byte of its map and what stands behind its own fields, with
 -- the refusal, or 0 where the book is accepted.
 record Case : Type 0 where
   high : ℕ
@@ -106,8 +100,30 @@ cases =
     ∷ case 1 (0 ∷ []) 4
     ∷ case 1 (1 ∷ 0 ∷ 0 ∷ []) 10
     ∷ case 0 (1 ∷ 0 ∷ []) 10
-    ∷ case 2 (1 ∷ 0 ∷ []) 8
-    ∷ case 3 (1 ∷ 0 ∷ []) 8
+    ∷ case 2 (1 ∷ 0 ∷ []) 0  -- a first day alone: 1, and the last of all
+    ∷ case 2 (255 ∷ 255 ∷ []) 0
+    ∷ case 2 (0 ∷ 0 ∷ []) 5  -- a written first day 0
+    ∷ case 2 (0 ∷ []) 4
+    ∷ case 4 (0 ∷ 0 ∷ []) 0  -- a last day alone: 0, and 65,534
+    ∷ case 4 (254 ∷ 255 ∷ []) 0
+    ∷ case 4 (255 ∷ 255 ∷ []) 5  -- a written last day 65,535
+    ∷ case 4 (255 ∷ []) 4
+    ∷ case 6 (7 ∷ 1 ∷ 7 ∷ 1 ∷ []) 0  -- a period of one day
+    ∷ case 6 (1 ∷ 0 ∷ 254 ∷ 255 ∷ []) 0
+    ∷ case 6 (7 ∷ 1 ∷ 6 ∷ 1 ∷ []) 16  -- the last day before the first
+    ∷ case 6 (1 ∷ 0 ∷ 0 ∷ 0 ∷ []) 16
+    ∷ case 6 (255 ∷ 255 ∷ 254 ∷ 255 ∷ []) 16
+    ∷ case 6 (0 ∷ 0 ∷ 255 ∷ 255 ∷ []) 5
+    ∷ case 6 (0 ∷ 0 ∷ []) 5  -- the first day's own refusal, before the last is due
+    ∷ case 6 (7 ∷ 1 ∷ 255 ∷ 255 ∷ []) 5
+    ∷ case 6 (7 ∷ 1 ∷ 6 ∷ []) 4
+    ∷ case 6 (7 ∷ 1 ∷ 6 ∷ 1 ∷ 0 ∷ []) 16  -- before the bytes behind the book
+    ∷ case 6 (7 ∷ 1 ∷ 7 ∷ 1 ∷ 0 ∷ []) 10
+    ∷ case 7 (0 ∷ 4 ∷ 7 ∷ 1 ∷ 6 ∷ 1 ∷ []) 9  -- the source, then the days
+    ∷ case 7 (1 ∷ 0 ∷ 7 ∷ 1 ∷ 6 ∷ 1 ∷ []) 16
+    ∷ case 7 (255 ∷ 3 ∷ 7 ∷ 1 ∷ 8 ∷ 1 ∷ []) 0
+    ∷ case 8 (1 ∷ 0 ∷ []) 8
+    ∷ case 9 (1 ∷ 0 ∷ []) 8
     ∷ case 255 [] 8
     ∷ []
 
@@ -115,6 +131,6 @@ abbrev answers : List Case → Bool
 answers [] = true
 answers (c ∷ cs) = eqb (answerOf (decode (marked c))) (c .answer) && answers cs
 
-sources-read : answers cases ≡ true
-unfolding decode book header concepts several statement statementStart statementRest axiomOf pathOf statementAllows roleOf fields fieldsFrom field byte twoBytes
-sources-read = refl
+marks-read : answers cases ≡ true
+unfolding decode book header concepts several statement statementStart statementRest statementEnd axiomOf pathOf statementAllows roleOf fields fieldsFrom field byte twoBytes
+marks-read = refl

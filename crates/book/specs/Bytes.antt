@@ -95,9 +95,9 @@ formOf (SameIndividual i j) = form 12 (gap ∷ gap ∷ gap ∷ gap ∷ gap ∷ g
 formOf (ClassAssertion c i) = form 13 (gap ∷ gap ∷ gap ∷ gap ∷ put c ∷ gap ∷ put i ∷ [])
 formOf (ObjectPropertyAssertion r i j) = form 14 (role r ∷ gap ∷ gap ∷ gap ∷ gap ∷ gap ∷ put i ∷ put j ∷ [])
 
--- bit 8 on: the source
+-- bit 8 on: the source, the first and the last day
 abbrev pub marks : Statement → List Place
-marks x = mark 0 (x .source) ∷ []
+marks x = mark 0 (x .source) ∷ mark 0 (x .first) ∷ mark 65535 (x .last) ∷ []
 
 -- n places, gaps behind those that there are
 abbrev pub padded : ℕ → List Place → List Place
@@ -120,7 +120,7 @@ unfoldable pub statementsBytes : List Statement → List ℕ
 statementsBytes [] = []
 statementsBytes (x ∷ xs) = statementBytes x ++ statementsBytes xs
 
--- a repeat: the same kind, and the same numbers in the same places, the source among them
+-- a repeat: the same kind, and the same numbers in the same places, source and days among them
 abbrev pub samePlace : Place → Place → Bool
 samePlace gap gap = true
 samePlace gap (put w) = false

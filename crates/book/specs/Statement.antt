@@ -3,7 +3,7 @@ use Prim.Native.Nat.{ℕ, _*_, _%_}
 use mathlib.Core.List.{List, [], _∷_, _++_}
 use mathlib.Core.Bool.{not}
 use lib.ListN.{getD, replicate}
-use lib.Dec.{ltb, eqb}
+use lib.Dec.{ltb, leb, eqb}
 use Rattle.book.specs.declared.header.Counts.{Counts}
 use Rattle.book.specs.declared.table.Start.{Start}
 use Rattle.book.specs.declared.statement.SubRolePath.{SubRolePath}
@@ -19,19 +19,19 @@ use Rattle.book.specs.Read.{pick, Read, value, refusal, Parser, _>>=_, _
 use Rattle.book.specs.Field.{byte, twoBytes, fields}
 use Rattle.book.specs.Table.{statementAllows}
 
--- A kind and its map: refusal 7 for an unknown kind, before its map is due, and 8 for a map that is not one of the kind's. Bit 8 may stand with
--- every map of every kind: the bits below it are held against the kind's table, and none may stand above.
+-- A kind and its map: refusal 7 for an unknown kind, before its map is due, and 8 for a map that is not one of the kind's. Bits 8 to 10 may
+-- stand with every map of every kind: the bits below them are held against the kind's table, and none may stand above.
 unfoldable pub statementStart : Parser Start
 statementStart = do
   kind ← byte
   unless (not (eqb kind 0)) 7
   unless (ltb kind 15) 7
   map ← twoBytes
-  unless (ltb map 512) 8
+  unless (ltb map 2048) 8
   unless (statementAllows kind (map % 256)) 8
   give (record { kind = kind; map = map })
 
--- bits 0 to 3 are roles, 4 and 5 concepts, 6 and 7 individuals, 8 is a source
+-- bits 0 to 3 are roles, 4 and 5 concepts, 6 and 7 individuals, 8 is a source, 9 and 10 are a first and a last day
 abbrev pub statementLimits : Counts → List ℕ
 statementLimits h =
     2 * h .roles
@@ -43,11 +43,13 @@ statementLimits h =
     ∷ h .individuals
     ∷ h .individuals
     ∷ 1024
-    ∷ replicate 7 0
+    ∷ 65536
+    ∷ 65536
+    ∷ replicate 5 0
 
--- No source is 0, the shared book. A kind's own fields have no value that stands for an absent one.
+-- No source is 0, the shared book; no first day is day 0, and no last day 65,535. A kind's own fields have no value that stands for an absent one.
 abbrev pub unmarked : List ℕ
-unmarked = replicate 8 65536 ++ (0 ∷ replicate 7 65536)
+unmarked = replicate 8 65536 ++ (0 ∷ 0 ∷ 65535 ∷ replicate 5 65536)
 
 -- the path of a SubObjectPropertyOf, whose super-role stands at bit 3
 unfoldable pub pathOf : ℕ → Role → Role → Role → SubRolePath
@@ -90,15 +92,23 @@ axiomKinds map v =
 unfoldable pub axiomOf : Start → List ℕ → Axiom
 axiomOf start v = getD (axiomKinds (start .map % 256) v) (start .kind) (assertion v)
 
--- the whole record: what it says, and whose statement it was
+-- the whole record: what it says, whose statement it was, and its period
 abbrev pub statementOf : Start → List ℕ → Statement
-statementOf start v = record { body = axiomOf start v; source = getD v 8 0 }
+statementOf start v = record { body = axiomOf start v; source = getD v 8 0; first = getD v 9 0; last = getD v 10 0 }
+
+-- a record without source and days: of the shared book, in force every day
+abbrev pub bare : Axiom → Statement
+bare a = record { body = a; source = 0; first = 0; last = 65535 }
+
+-- once all fields are read: refusal 16 for a last day before the first. Where one of them is absent there is none.
+unfoldable pub statementEnd : Start → List ℕ → Parser Statement
+statementEnd start v = do
+  unless (leb (getD v 9 0) (getD v 10 0)) 16
+  give (statementOf start v)
 
 -- from the first field on: each field is complete (4), then not the value of an absent one (5), then in range (9)
 unfoldable pub statementRest : Counts → Start → Parser Statement
-statementRest h start = do
-  v ← fields (start .map) (statementLimits h) unmarked 9
-  give (statementOf start v)
+statementRest h start = fields (start .map) (statementLimits h) unmarked 9 >>= statementEnd start
 
 unfoldable pub statement : Counts → Parser Statement
 statement h = statementStart >>= statementRest h

@@ -64,7 +64,9 @@ Within h (SameIndividual i j) = (i < h .individuals) × (j < h .individuals)
 Within h (ClassAssertion c i) = (c < h .concepts) × (i < h .individuals)
 Within h (ObjectPropertyAssertion r i j) = RoleWithin h r × (i < h .individuals) × (j < h .individuals)
 
--- a whole record: what it says keeps to the counts, and its source is one of 0 to 1,023
+-- a whole record: what it says keeps to the counts, its source is one of 0 to 1,023, and its period has a day
 pub record StatementWithin (h : Counts) (x : Statement) : Type 0 where
   pub body : Within h (x .body)
   pub source-top : x .source < 1024
+  pub period : x .first ≤ x .last
+  pub last-top : x .last < 65536

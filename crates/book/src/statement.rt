@@ -1,7 +1,8 @@
 // Statement records: the axioms of a register.
 ghost use mathlib.Core.Path.{_≡_};
-ghost use Prim.Native.Nat.{_%_};
-ghost use Rattle.book.specs.Statement.{statementStart, pathOf, axiomOf, statementOf, statementRest, statement, asStatement};
+ghost use Prim.Native.Nat.{ℕ, _%_};
+ghost use mathlib.Core.List.{List};
+ghost use Rattle.book.specs.Statement.{statementStart, pathOf, axiomOf, statementOf, statementEnd, statementRest, statement, asStatement};
 ghost use Rattle.book.specs.Concept.{asStart};
 use super::field::Fields;
 use super::field::Passed;
@@ -60,10 +61,12 @@ pub enum Axiom {
     },
 }
 
-// A statement record: what it says, and whose statement it was (0: the shared book).
+// A statement record: what it says, whose statement it was (0: the shared book), and the first and the last day on which it is in force.
 pub struct Statement {
     pub body: Axiom,
     pub source: u32,
+    pub first: u32,
+    pub last: u32,
 }
 
 pub enum ReadStatement {
@@ -88,7 +91,7 @@ fn statement_start(book: &[u8], at: usize) -> ReadStart
             match second {
                 ReadField::Refused(n) => ReadStart::Refused(n),
                 ReadField::Next(map, next) => {
-                    if 512 <= map {
+                    if 2048 <= map {
                         return ReadStart::Refused(8);
                     }
                     let allowed = statement_allows(kind, map % 256);
@@ -157,13 +160,29 @@ fn statement_of(start: Start, f: Fields) -> Statement
     ensures { λ x. ⌜ x ≡ statementOf start (f .values) ⌝ }
 {
     let source = f.values[8];
+    let first = f.values[9];
+    let last = f.values[10];
     Statement {
         body: axiom_of(start, f),
         source,
+        first,
+        last,
     }
 }
 
-// A source is never written as 0. The kind's own fields have no value that stands for an absent one.
+// Once all fields are read.
+fn statement_end(next: usize, start: Start, f: Fields) -> ReadStatement
+    ensures { λ r. ⌜ ((s : List ℕ) → asStatement r ≡ statementEnd start (f .values) s next) ⌝ }
+{
+    let first = f.values[9];
+    let last = f.values[10];
+    if last < first {
+        return ReadStatement::Refused(16);
+    }
+    ReadStatement::Next(statement_of(start, f), next)
+}
+
+// A source is never written as 0, nor a first day; a last day never as 65,535. The kind's own fields have no value that stands for an absent one.
 const UNMARKED: [u32; 16] = [
     65536, // roles
     65536,
@@ -174,8 +193,8 @@ const UNMARKED: [u32; 16] = [
     65536, // individuals
     65536,
     0, // source
-    65536,
-    65536,
+    0, // first day
+    65535, // last day
     65536,
     65536,
     65536,
@@ -200,8 +219,8 @@ fn statement_rest(book: &[u8], at: usize, start: Start, counts: Counts) -> ReadS
         individuals,
         individuals,
         1024,
-        0,
-        0,
+        65536,
+        65536,
         0,
         0,
         0,
@@ -213,7 +232,7 @@ fn statement_rest(book: &[u8], at: usize, start: Start, counts: Counts) -> ReadS
     let end = f.end;
     match end {
         Passed::Refused(n) => ReadStatement::Refused(n),
-        Passed::Next(next) => ReadStatement::Next(statement_of(start, f), next),
+        Passed::Next(next) => statement_end(next, start, f),
     }
 }
 

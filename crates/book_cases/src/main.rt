@@ -1,5 +1,5 @@
 // Runs the check over the books of its standard input, each behind its length in four bytes, and writes what was read: the refusal,
-// or the counts and, of a book of few records, each record as its kind and its fields in the order of their bits, a statement with its source.
+// or the counts and, of a book of few records, each record as its kind and its fields in the order of their bits, a statement with its source and days.
 ghost use Prim.Native.Nat.{_≤_};
 ghost use lib.ListN.{length};
 use book::check::Checked;
@@ -207,12 +207,12 @@ fn concepts(book: &[u8], offsets: &[usize], counts: Counts) {
     }
 }
 
-// A source, where there is one.
-fn source(n: u32) {
-    if n == 0 {
+// A source or a day, where there is one.
+fn mark(name: &[u8], n: u32, absent: u32) {
+    if n == absent {
         return;
     }
-    word(b" source");
+    word(name);
     id(n);
 }
 
@@ -220,7 +220,9 @@ fn statement_line(x: Statement) {
     let said = x.body;
     word(b"s");
     statement(said);
-    source(x.source);
+    mark(b" source", x.source, 0);
+    mark(b" first", x.first, 0);
+    mark(b" last", x.last, 65535);
     word(b"\n");
 }
 

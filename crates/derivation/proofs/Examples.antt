@@ -10,7 +10,7 @@ use Rattle.book.specs.Field.{byte, twoBytes, fourBytes, field, fieldsFrom, fiel
 use Rattle.book.specs.Table.{statementAllows}
 use Rattle.book.specs.Header.{header}
 use Rattle.book.specs.Concept.{conceptStart, partList, bound, conceptTail, conceptRest, concept}
-use Rattle.book.specs.Statement.{statementStart, pathOf, axiomOf, statementRest, statement}
+use Rattle.book.specs.Statement.{statementStart, pathOf, axiomOf, statementEnd, statementRest, statement}
 use Rattle.book.specs.Tree.{partTrees}
 use Rattle.book.specs.Book.{concepts, book, decode}
 use Rattle.book.specs.Within.{Every}
@@ -45,7 +45,7 @@ all-hold [] e = tt
 all-hold (x ∷ xs) e = let a = and-both (same-answer (judged (x .book) (x .rows)) (x .answer)) (tests xs) e in (answer-true (judged (x .book) (x .rows)) (x .answer) (a .0), all-hold xs (a .1))
 
 tests-come-out : tests examples ≡ true
-unfolding tests examples worked clashing roleOf several byte twoBytes fourBytes field fieldsFrom fields statementAllows header conceptStart partList bound conceptTail conceptRest concept statementStart pathOf axiomOf statementRest statement partTrees concepts book decode edge type atomics values markers labels label same marked typeClash markerClash clashes rowAt claim named earlier byStatement bySharing byClash accepts standing stands judged
+unfolding tests examples worked clashing roleOf several byte twoBytes fourBytes field fieldsFrom fields statementAllows header conceptStart partList bound conceptTail conceptRest concept statementStart pathOf axiomOf statementEnd statementRest statement partTrees concepts book decode edge type atomics values markers labels label same marked typeClash markerClash clashes rowAt claim named earlier byStatement bySharing byClash accepts standing stands judged
 tests-come-out = refl
 
 -- the whole table

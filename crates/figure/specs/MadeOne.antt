@@ -44,7 +44,7 @@ oneAxiom (ClassAssertion c i) = ClassAssertion c 0
 oneAxiom (ObjectPropertyAssertion r a b) = ObjectPropertyAssertion r 0 0
 
 abbrev pub oneStatement : Statement → Statement
-oneStatement x = record { body = oneAxiom (x .body); source = x .source }
+oneStatement x = record { body = oneAxiom (x .body); source = x .source; first = x .first; last = x .last }
 
 -- one individual, or none where there is none
 abbrev pub atMostOne : ℕ → ℕ

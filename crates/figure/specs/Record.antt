@@ -1,4 +1,4 @@
--- A statement record by its bytes: a kind, a map of two bytes, and its numbers, one behind the other, the source last. The kind says what they are; of a
+-- A statement record by its bytes: a kind, a map of two bytes, and its numbers, one behind the other, source and days last. The kind says what they are; of a
 -- path the map's low byte says how many. An accepted record is read so (proofs/Records.antt).
 use Prim.Native.Nat.{ℕ, _+_, _*_, _/_, _%_, _<_, _≤_}
 use mathlib.Core.List.{List, [], _∷_}
@@ -22,9 +22,13 @@ pathSaid low a b c d =
 abbrev pub pathNumbers : ℕ → ℕ
 pathNumbers low = pick (eqb low 0x09) 2 (pick (eqb low 0x0B) 3 4)
 
--- how many numbers a statement has, its source apart
+-- how many numbers a statement has, source and days apart
 abbrev pub numbersOf : ℕ → ℕ → ℕ
 numbersOf kind low = pick (eqb kind 5) (pathNumbers low) (pick (eqb kind 14) 3 (pick (ltb kind 6) 2 (pick (ltb kind 10) 1 2)))
+
+-- how many of source and days a map tells: its bits 8, 9 and 10
+abbrev pub marksOf : ℕ → ℕ
+marksOf map = map / 256 % 2 + map / 512 % 2 + map / 1024
 
 -- the kinds 1 to 14 in their order; there is none besides, and in the place of each other one stands a statement that brings no class and no role
 abbrev pub saidKinds : ℕ → ℕ → ℕ → ℕ → ℕ → List Axiom
@@ -57,9 +61,9 @@ lowAt s at = numberAt s (at + 1) % 256
 unfoldable pub saidAt : List ℕ → ℕ → Axiom
 saidAt s at = said (getD s at 0) (lowAt s at) (numberAt s (at + 3)) (numberAt s (at + 5)) (numberAt s (at + 7)) (numberAt s (at + 9))
 
--- where the next one starts: one number more where a source is told
+-- where the next one starts
 unfoldable pub nextAt : List ℕ → ℕ → ℕ
-nextAt s at = at + 3 + 2 * numbersOf (getD s at 0) (lowAt s at) + 2 * (numberAt s (at + 1) / 256)
+nextAt s at = at + 3 + 2 * numbersOf (getD s at 0) (lowAt s at) + 2 * marksOf (numberAt s (at + 1))
 
 -- a record that is whole, and whose numbers are in range
 pub record Plain (s : List ℕ) (h : Counts) (at : ℕ) : Type 0 where

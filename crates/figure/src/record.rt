@@ -3,7 +3,7 @@ ghost use mathlib.Core.Path.{_≡_};
 ghost use Prim.Native.Nat.{_+_, _*_, _≤_};
 ghost use lib.ListN.{length};
 ghost use Rattle.book.specs.Field.{numberAt};
-ghost use Rattle.figure.specs.Record.{pathNumbers, numbersOf, nextAt};
+ghost use Rattle.figure.specs.Record.{pathNumbers, numbersOf, marksOf, nextAt};
 
 fn number(low: u8, high: u8) -> usize
     ensures { λ r. ⌜ r ≡ low + 256 * high ⌝ }
@@ -31,7 +31,7 @@ fn path_numbers(low: usize) -> usize
     4
 }
 
-// How many numbers a statement has, its source apart.
+// How many numbers a statement has, source and days apart.
 fn numbers_of(kind: u8, low: usize) -> usize
     ensures { λ r. ⌜ r ≡ numbersOf kind low ⌝ }
 {
@@ -50,11 +50,21 @@ fn numbers_of(kind: u8, low: usize) -> usize
     2
 }
 
+// How many of source and days a map tells.
+fn marks_of(map: usize) -> usize
+    ensures { λ r. ⌜ r ≡ marksOf map ⌝ }
+{
+    if map < 256 {
+        return 0;
+    }
+    map / 256 % 2 + map / 512 % 2 + map / 1024
+}
+
 // Where the statement record behind the one at `at` starts.
 pub fn next_at(book: &[u8], at: usize) -> usize
     requires { ⌜ nextAt (now book) at ≤ length (now book) ⌝ }
     ensures { λ r. ⌜ r ≡ nextAt (now (book .entry)) at ⌝ }
 {
     let map = number_at(book, at + 1);
-    at + 3 + 2 * numbers_of(book[at], map % 256) + 2 * (map / 256)
+    at + 3 + 2 * numbers_of(book[at], map % 256) + 2 * marks_of(map)
 }

@@ -86,9 +86,8 @@ heeded-rest r s B book = ap (heedings r) (accepted-rest s B book)
 
 -- a run that nothing is wrong with works on the book spoken of, or has the book's own refusal
 pub ready-decoded : (n : Names) (table : List ℕ) → Ready n table → (s : List ℕ) → decodeFor (readerOf n table) s ≡ spokenOf (readerOf n table) (decode s)
-unfolding decodeFor
 ready-decoded n table ready s = go (n .named) refl
   where
     go : (b : Bool) → n .named ≡ b → decodeFor (readerOf n table) s ≡ spokenOf (readerOf n table) (decode s)
-    go true e = let k = ready e in rw e (decode-read s (n .reader) table (omega (arith, k .0)) (k .1))
-    go false e = rw e refl
+    go true e = let k = ready e in decode-read s (readerOf n table) (rw e (omega (arith, k .0), k .1))
+    go false e = decode-read s (readerOf n table) (rw e tt)

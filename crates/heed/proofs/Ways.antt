@@ -5,12 +5,13 @@ use mathlib.Core.Path.{_≡_, refl, sym}
 use mathlib.Core.Bool.{Bool, true, false, not}
 use mathlib.Core.List.{List}
 use lib.ListN.{length, getD}
-use borrow.Author.Tests.{eq-eqb, ne-eqb}
+use lib.Dec.{leb}
+use borrow.Author.Tests.{eq-eqb, ne-eqb, le-leb, lt-leb}
 use Rattle.book.specs.declared.statement.Statement.{Statement}
-use Rattle.rules.specs.Spoken.{readable, heeded}
+use Rattle.rules.specs.Spoken.{Reader, readable, readableBy, inForce, inForceOn, heeded}
 use Rattle.rules.proofs.Spoken.{decode-14, decode-15}
 use Rattle.heed.specs.declared.names.Names.{Names}
-use Rattle.heed.specs.Names.{bitAt, readerOf, Fault}
+use Rattle.heed.specs.Names.{bitAt, whoOf, dayOf, Fault}
 
 named : (b : Bool) → not b ≡ false → b ≡ true
 named true e = refl
@@ -26,10 +27,10 @@ module _ (n : Names) (table : List ℕ) where
 
   module _ (e : not (n .named) ≡ false) where
     pub fault-14 : 31 < n .reader → Fault n table 14
-    fault-14 l = record { none = λ q. absurd (omega arith); refuses = λ d s. rw (named (n .named) e) (decode-14 s (n .reader) table l) }
+    fault-14 l = record { none = λ q. absurd (omega arith); refuses = λ d s. rw (named (n .named) e) (decode-14 s (n .reader) table (dayOf n) l) }
 
     pub fault-15 : n .reader ≤ 31 → (length table ≡ 1024 → ⊥) → Fault n table 15
-    fault-15 l m = record { none = λ q. absurd (omega arith); refuses = λ d s. rw (named (n .named) e) (decode-15 s (n .reader) table l m) }
+    fault-15 l m = record { none = λ q. absurd (omega arith); refuses = λ d s. rw (named (n .named) e) (decode-15 s (n .reader) table (dayOf n) l m) }
 
     pub fault-none : n .reader ≤ 31 → length table ≡ 1024 → Fault n table 0
     fault-none l m = record { none = λ q f. (omega arith, m); refuses = λ d s. absurd (d refl) }
@@ -43,10 +44,25 @@ module _ (x : Statement) where
   unfolding readable
   read-bit r table b d e = rw (ne-eqb (x .source) 0 d) e
 
-  pub heeds-named : (n : Names) (table : List ℕ) (b : Bool) → n .named ≡ true → b ≡ readable (n .reader) table x → b ≡ heeded (readerOf n table) x
-  unfolding heeded
-  heeds-named n table b e f = rw e f
+  pub read-named : (n : Names) (table : List ℕ) (b : Bool) → n .named ≡ true → b ≡ readable (n .reader) table x → b ≡ readableBy (whoOf n table) x
+  read-named n table b e f = rw e f
 
-  pub heeds-any : (n : Names) (table : List ℕ) → n .named ≡ false → true ≡ heeded (readerOf n table) x
-  unfolding heeded
-  heeds-any n table e = rw e refl
+  pub force-early : (day : ℕ) → day < x .first → false ≡ inForce day x
+  unfolding inForce
+  force-early day l = rw (lt-leb (x .first) day l) refl
+
+  pub force-on : (day : ℕ) → x .first ≤ day → leb day (x .last) ≡ inForce day x
+  unfolding inForce
+  force-on day l = rw (le-leb (x .first) day l) refl
+
+  pub day-named : (n : Names) (b : Bool) → n .dated ≡ true → b ≡ inForce (n .day) x → b ≡ inForceOn (dayOf n) x
+  day-named n b e f = rw e f
+
+  module _ (r : Reader) where
+    pub heeds-current : (a b : Bool) → a ≡ inForceOn (r .day) x → a ≡ true → b ≡ readableBy (r .who) x → b ≡ heeded r x
+    unfolding heeded
+    heeds-current a b e f g = rw (← e, f) g
+
+    pub heeds-not : (a : Bool) → a ≡ inForceOn (r .day) x → a ≡ false → false ≡ heeded r x
+    unfolding heeded
+    heeds-not a e f = rw (← e, f) refl

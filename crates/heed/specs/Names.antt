@@ -14,15 +14,21 @@ use Rattle.book.specs.declared.reader.Turn.{Turn}
 use Rattle.book.specs.declared.reader.Turn.the-variants.{Next}
 use Rattle.book.specs.declared.statement.Statement.{Statement}
 use Rattle.book.proofs.Parsing.{Goes}
-use Rattle.rules.specs.Spoken.{Reader, anyone, reader, heedings, decodeFor}
+use Rattle.rules.specs.Spoken.{Who, whoever, one, Day, always, on, Reader, heedings, decodeFor}
 use Rattle.heed.specs.declared.names.Names.{Names}
 
 abbrev pub bitAt : ℕ → ℕ → Bool
 bitAt w r = eqb (w / 2 ^ r % 2) 1
 
--- the reader that a run names, with the table that is lent
+-- the reader that a run names, with the table that is lent; the day that it names; and both
+abbrev pub whoOf : Names → List ℕ → Who
+whoOf n table = pick (n .named) (one (n .reader) table) whoever
+
+abbrev pub dayOf : Names → Day
+dayOf n = pick (n .dated) (on (n .day)) always
+
 abbrev pub readerOf : Names → List ℕ → Reader
-readerOf n table = pick (n .named) (reader (n .reader) table) anyone
+readerOf n table = record { who = whoOf n table; day = dayOf n }
 
 -- a reader that is named is below 32, and his table has a word for each source: what refusals 14 and 15 leave
 abbrev pub Ready : Names → List ℕ → Type 0

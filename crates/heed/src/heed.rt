@@ -2,8 +2,8 @@
 ghost use mathlib.Core.Path.{_≡_};
 ghost use Prim.Native.Nat.{_<_};
 ghost use lib.ListN.{length};
-ghost use Rattle.rules.specs.Spoken.{readable, heeded};
-ghost use Rattle.heed.specs.Names.{bitAt, readerOf, Ready, Step};
+ghost use Rattle.rules.specs.Spoken.{readable, readableBy, inForce, inForceOn, heeded};
+ghost use Rattle.heed.specs.Names.{bitAt, whoOf, dayOf, readerOf, Ready, Step};
 use super::names::Names;
 use book::header::Counts;
 use book::reader::Turn;
@@ -29,15 +29,48 @@ fn may_read(statement: Statement, reader: u32, table: &[u32]) -> bool
     bit(table[source], reader)
 }
 
-// Whether a statement counts.
-pub fn heeds(statement: Statement, names: Names, table: &[u32]) -> bool
+// Whether the reader that a run names may read a statement.
+fn read(statement: Statement, names: Names, table: &[u32]) -> bool
     requires { ⌜ Ready names (now table) × (statement .source < 1024) ⌝ }
-    ensures { λ b. ⌜ b ≡ heeded (readerOf names (now (table .entry))) statement ⌝ }
+    ensures { λ b. ⌜ b ≡ readableBy (whoOf names (now (table .entry))) statement ⌝ }
 {
     if names.named {
         return may_read(statement, names.reader, table);
     }
     true
+}
+
+// Both days belong to the period.
+fn in_force(statement: Statement, day: u16) -> bool
+    ensures { λ b. ⌜ b ≡ inForce day statement ⌝ }
+{
+    let here = day as u32;
+    if here < statement.first {
+        return false;
+    }
+    here <= statement.last
+}
+
+// Whether a statement is in force on the day that a run names.
+fn current(statement: Statement, names: Names) -> bool
+    ensures { λ b. ⌜ b ≡ inForceOn (dayOf names) statement ⌝ }
+{
+    if names.dated {
+        return in_force(statement, names.day);
+    }
+    true
+}
+
+// Whether a statement counts.
+pub fn heeds(statement: Statement, names: Names, table: &[u32]) -> bool
+    requires { ⌜ Ready names (now table) × (statement .source < 1024) ⌝ }
+    ensures { λ b. ⌜ b ≡ heeded (readerOf names (now (table .entry))) statement ⌝ }
+{
+    let valid = current(statement, names);
+    if valid {
+        return read(statement, names, table);
+    }
+    false
 }
 
 // The next statement that counts, from an offset on.

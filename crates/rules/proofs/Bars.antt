@@ -14,7 +14,7 @@ use Rattle.book.specs.Field.{byte, twoBytes, fourBytes, field, fieldsFrom, fiel
 use Rattle.book.specs.Table.{statementAllows}
 use Rattle.book.specs.Header.{header}
 use Rattle.book.specs.Concept.{conceptStart, partList, bound, conceptTail, conceptRest, concept}
-use Rattle.book.specs.Statement.{statementStart, pathOf, axiomOf, statementRest, statement}
+use Rattle.book.specs.Statement.{statementStart, pathOf, axiomOf, statementEnd, statementRest, statement}
 use Rattle.book.specs.Tree.{partTrees}
 use Rattle.book.specs.Book.{Book, concepts, book, Decoded, refused, accepted, decode}
 use Rattle.rules.specs.Fact.{edge, type}
@@ -194,7 +194,7 @@ all-hold (b ∷ bs) e = let a = and-both (test b) (tests bs) e in (bar-holds b (
 
 -- the table
 tests-come-out : tests bars ≡ true
-unfolding test bars plainBar roleOf several byte twoBytes fourBytes field fieldsFrom fields statementAllows header conceptStart partList bound conceptTail conceptRest concept statementStart pathOf axiomOf statementRest statement partTrees concepts book decode edge type atomics values markers labels label same rules samePair marked typeClash markerClash clashes types edges pairs used outcomeFrom
+unfolding test bars plainBar roleOf several byte twoBytes fourBytes field fieldsFrom fields statementAllows header conceptStart partList bound conceptTail conceptRest concept statementStart pathOf axiomOf statementEnd statementRest statement partTrees concepts book decode edge type atomics values markers labels label same rules samePair marked typeClash markerClash clashes types edges pairs used outcomeFrom
 tests-come-out = refl
 
 pub table : Every Holds bars
@@ -202,7 +202,7 @@ table = all-hold bars tests-come-out
 
 -- one row by itself
 plain-test : test plainBar ≡ true
-unfolding test plainBar roleOf several byte twoBytes fourBytes field fieldsFrom fields statementAllows header conceptStart partList bound conceptTail conceptRest concept statementStart pathOf axiomOf statementRest statement partTrees concepts book decode edge type atomics values markers labels label same rules samePair marked typeClash markerClash clashes types edges pairs used outcomeFrom
+unfolding test plainBar roleOf several byte twoBytes fourBytes field fieldsFrom fields statementAllows header conceptStart partList bound conceptTail conceptRest concept statementStart pathOf axiomOf statementEnd statementRest statement partTrees concepts book decode edge type atomics values markers labels label same rules samePair marked typeClash markerClash clashes types edges pairs used outcomeFrom
 plain-test = refl
 
 pub plain-holds : Holds plainBar

@@ -1,4 +1,4 @@
--- A run depends on the statements of a book as a set: order, repeats and sources change nothing, and neither does their number in the header.
+-- A run depends on the statements of a book as a set: order, repeats, sources and days change nothing, and neither does their number in the header.
 use Prim.Native.Nat.{ℕ, _+_}
 use lib.Dec.{ltb, eqb}
 use mathlib.Core.Path.{_≡_, refl, sym, ap, ap₂, _∙_, subst, fun-ext}

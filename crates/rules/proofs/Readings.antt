@@ -8,7 +8,7 @@ use Rattle.book.specs.Field.{byte, twoBytes, fourBytes, field, fieldsFrom, fiel
 use Rattle.book.specs.Table.{statementAllows}
 use Rattle.book.specs.Header.{header}
 use Rattle.book.specs.Concept.{conceptStart, partList, bound, conceptTail, conceptRest, concept}
-use Rattle.book.specs.Statement.{statementStart, pathOf, axiomOf, statementRest, statement}
+use Rattle.book.specs.Statement.{statementStart, pathOf, axiomOf, statementEnd, statementRest, statement}
 use Rattle.book.specs.Tree.{partTrees}
 use Rattle.book.specs.Book.{concepts, book, decode}
 use Rattle.book.specs.Within.{Every}
@@ -20,7 +20,7 @@ use Rattle.rules.specs.Same.{samePair}
 use Rattle.rules.specs.Clash.{marked, typeClash, markerClash, clashes}
 use Rattle.rules.specs.Lists.{types, edges, pairs, used}
 use Rattle.rules.specs.Ends.{outcomeFrom}
-use Rattle.rules.specs.Spoken.{readable, heeded, heedings, decodeFor}
+use Rattle.rules.specs.Spoken.{readable, inForce, heeded, heedings, decodeFor}
 use Rattle.rules.specs.Bars.{nines, expected}
 use Rattle.rules.specs.Readings.{Reading, Holds, readings}
 use Rattle.rules.proofs.Tests.{and-both}
@@ -43,7 +43,7 @@ all-hold [] e = tt
 all-hold (x ∷ xs) e = let a = and-both (test x) (tests xs) e in (reading-holds x (a .0), all-hold xs (a .1))
 
 tests-come-out : tests readings ≡ true
-unfolding test readings roleOf several byte twoBytes fourBytes field fieldsFrom fields statementAllows header conceptStart partList bound conceptTail conceptRest concept statementStart pathOf axiomOf statementRest statement partTrees concepts book decode edge type atomics values markers labels label same rules samePair marked typeClash markerClash clashes types edges pairs used outcomeFrom readable heeded heedings decodeFor
+unfolding test readings roleOf several byte twoBytes fourBytes field fieldsFrom fields statementAllows header conceptStart partList bound conceptTail conceptRest concept statementStart pathOf axiomOf statementEnd statementRest statement partTrees concepts book decode edge type atomics values markers labels label same rules samePair marked typeClash markerClash clashes types edges pairs used outcomeFrom readable inForce heeded heedings decodeFor
 tests-come-out = refl
 
 pub table : Every Holds readings

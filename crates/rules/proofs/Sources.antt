@@ -1,5 +1,5 @@
--- Conclusions ignore sources: two books that are equal but for the sources of their statements have equal conclusions, and every run of the
--- one ends as that of the other, lists included.
+-- Conclusions ignore sources and days: two books that are equal but for those of their statements have equal conclusions, and every run of the
+-- one that names neither reader nor day ends as that of the other, lists included.
 use Prim.Native.Nat.{ℕ}
 use mathlib.Core.Path.{_≡_, sym, ap, ap₂, _∙_, subst}
 use mathlib.Core.List.{List}
@@ -14,7 +14,7 @@ use Rattle.rules.specs.Ends.{outcomeFrom, outcomeOf, outcome}
 use Rattle.rules.proofs.Inside.{Inside, accepted-inside}
 use Rattle.rules.proofs.Members.{conclusions-same, outcome-same}
 
--- equal but for the sources of their statements
+-- equal but for the sources and days of their statements
 pub record SameButSources (A B : Book) : Type 0 where
   pub counts : A .counts ≡ B .counts
   pub concepts : A .concepts ≡ B .concepts

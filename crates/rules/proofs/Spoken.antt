@@ -1,13 +1,13 @@
--- Runs that name a reader: demand 3 speaks of the book spoken of, and what the reader may not read leaves no trace.
+-- Runs that name a reader or a day: demand 3 speaks of the book spoken of, and what does not count leaves no trace.
 use Prim.Native.Nat.{ℕ, _*_, _<_, _≤_}
 use native.Mathlib.Omega.{arith}
 use mathlib.Core.Path.{_≡_, refl, ap, sym, _∙_, subst}
-use mathlib.Core.Bool.{Bool, true, false}
+use mathlib.Core.Bool.{Bool, true, false, _&&_}
 use mathlib.Core.List.{List, [], _∷_, _++_}
 use mathlib.Core.Logic.{_⊎_, inl, inr, ⊎-elim}
 use lib.ListN.{length, length-append}
 use lib.Dec.{ltb, eqb}
-use borrow.Author.Tests.{eq-eqb, ne-eqb, lt-ltb, le-ltb}
+use borrow.Author.Tests.{eq-eqb, ne-eqb, lt-ltb, le-ltb, le-leb}
 use Rattle.book.specs.Read.{pick}
 use Rattle.book.specs.Header.{counting, SameCounts}
 use Rattle.book.specs.Book.{Book, withStatements, Decoded, refused, accepted, decode, conceptBytes, restated}
@@ -20,7 +20,7 @@ use Rattle.rules.specs.Brought.{from}
 use Rattle.rules.specs.Lists.{only}
 use Rattle.rules.specs.Ends.{Refused, Clash, Finished, untouched, outcomeOf, outcome}
 use Rattle.rules.specs.Demand.{Clashed, Demand}
-use Rattle.rules.specs.Spoken.{Reader, anyone, reader, readable, heeded, heedings, spoken, spokenOf, admitted, decodeFor, outcomeFor}
+use Rattle.rules.specs.Spoken.{Who, whoever, one, Day, always, on, Reader, anyone, anyoneOn, readable, readableBy, inForce, inForceOn, heeded, heedings, readables, spoken, spokenOf, admitted, decodeFor, outcomeFor}
 use Rattle.rules.proofs.Inside.{Inside, accepted-inside}
 use Rattle.rules.proofs.Demand.{demand-of}
 
@@ -77,7 +77,7 @@ module _ (r : Reader) (s : List ℕ) (B : Book) (book : decode s ≡ accepted B)
   within : Every (StatementWithin (spoken r B .counts)) (heedings r (B .statements))
   within = heedings-every r (StatementWithin (B .counts)) (StatementWithin (spoken r B .counts)) (record-same (B .counts) (length (heedings r (B .statements)))) (B .statements) (accepted-records s B book)
 
-  -- the book spoken of as bytes: the unreadable statements left out
+  -- the book spoken of as bytes: the statements that do not count left out
   pub spoken-bytes : decode (restated s B (heedings r (B .statements))) ≡ accepted (spoken r B)
   spoken-bytes = restated-decodes s B book (heedings r (B .statements)) few within
 
@@ -88,18 +88,18 @@ module _ (r : Reader) (s : List ℕ) (B : Book) (book : decode s ≡ accepted B)
   -- what a run works on: the book spoken of, or refusal 14 or 15
   decoded-for : (decodeFor r s ≡ accepted (spoken r B)) ⊎ ((n : ℕ) × (decodeFor r s ≡ refused n))
   unfolding decodeFor
-  decoded-for = go r (ap (spokenOf r) book)
+  decoded-for = go (r .who) (ap (spokenOf r) book)
     where
       table : (a b : Bool) (x y : Decoded) → x ≡ y → (pick a (refused 14) (pick b x (refused 15)) ≡ y) ⊎ ((n : ℕ) × (pick a (refused 14) (pick b x (refused 15)) ≡ refused n))
       table true b x y q = inr (14, refl)
       table false true x y q = inl q
       table false false x y q = inr (15, refl)
 
-      go : (q : Reader) {x y : Decoded} → x ≡ y → (admitted q x ≡ y) ⊎ ((n : ℕ) × (admitted q x ≡ refused n))
-      go anyone e = inl e
-      go (reader k t) {x} {y} e = table (ltb 31 k) (eqb (length t) 1024) x y e
+      go : (w : Who) {x y : Decoded} → x ≡ y → (admitted w x ≡ y) ⊎ ((n : ℕ) × (admitted w x ≡ refused n))
+      go whoever e = inl e
+      go (one k t) {x} {y} e = table (ltb 31 k) (eqb (length t) 1024) x y e
 
-  -- DEMAND 3 of a run that names a reader: it speaks of the book that holds only the statements that count
+  -- DEMAND 3 of a run that names a reader or a day: it speaks of the book that holds only the statements that count
   pub demand-for : (budget : ℕ) (ts es ps : List ℕ) → Demand (spoken r B) (outcomeFor r s budget ts es ps)
   demand-for budget ts es ps = go decoded-for
     where
@@ -107,32 +107,35 @@ module _ (r : Reader) (s : List ℕ) (B : Book) (book : decode s ≡ accepted B)
       go (inl q) = demand-of (decodeFor r s) budget ts es ps (spoken r B) q spoken-inside
       go (inr q) = subst (λ (x : Decoded). Demand (spoken r B) (outcomeOf x budget ts es ps)) (sym (q .1)) (refused-demand (q .0) budget ts es ps (spoken r B))
 
--- what is accepted for a reader is a book spoken of
+-- what is accepted for a reader or a day is a book spoken of
 pub for-inside : (r : Reader) (s : List ℕ) (C : Book) → decodeFor r s ≡ accepted C → Inside C
 unfolding decodeFor
-for-inside r s C q = from-decoded (decode s) refl (from-admitted r q)
+for-inside r s C q = from-decoded (decode s) refl (from-admitted (r .who) q)
   where
     table : (a b : Bool) (x : Decoded) → pick a (refused 14) (pick b x (refused 15)) ≡ accepted C → x ≡ accepted C
     table true b x e = absurd (let o : _≡_ {A = ℕ} 0 1 = cc in omega arith)
     table false true x e = e
     table false false x e = absurd (let o : _≡_ {A = ℕ} 0 1 = cc in omega arith)
 
-    from-admitted : (k : Reader) {x : Decoded} → admitted k x ≡ accepted C → x ≡ accepted C
-    from-admitted anyone e = e
-    from-admitted (reader k t) {x} e = table (ltb 31 k) (eqb (length t) 1024) x e
+    from-admitted : (w : Who) {x : Decoded} → admitted w x ≡ accepted C → x ≡ accepted C
+    from-admitted whoever e = e
+    from-admitted (one k t) {x} e = table (ltb 31 k) (eqb (length t) 1024) x e
 
     from-decoded : (x : Decoded) → decode s ≡ x → spokenOf r x ≡ accepted C → Inside C
     from-decoded (refused n) e f = absurd (let o : _≡_ {A = ℕ} 0 1 = cc in omega arith)
     from-decoded (accepted B) e f = subst Inside (let z : spoken r B ≡ C = cc in z) (spoken-inside r s B e)
 
--- a run that names no reader takes all statements: it is the run of the book itself
+-- a run that names neither takes all statements: it is the run of the book itself
 pub heedings-all : (xs : List Statement) → heedings anyone xs ≡ xs
 unfolding heedings heeded
 heedings-all [] = refl
 heedings-all (x ∷ xs) = ap (λ (l : List Statement). x ∷ l) (heedings-all xs)
 
+counted : (s : List ℕ) (B : Book) → decode s ≡ accepted B → withStatements B (B .statements) ≡ B
+counted s B book = ap (λ (n : ℕ). record { counts = counting (B .counts) n; concepts = B .concepts; statements = B .statements }) (accepted-statements s B book)
+
 pub spoken-all : (s : List ℕ) (B : Book) → decode s ≡ accepted B → spoken anyone B ≡ B
-spoken-all s B book = ap (withStatements B) (heedings-all (B .statements)) ∙ ap (λ (n : ℕ). record { counts = counting (B .counts) n; concepts = B .concepts; statements = B .statements }) (accepted-statements s B book)
+spoken-all s B book = ap (withStatements B) (heedings-all (B .statements)) ∙ counted s B book
 
 pub decode-all : (s : List ℕ) → decodeFor anyone s ≡ decode s
 unfolding decodeFor
@@ -145,53 +148,103 @@ decode-all s = go (decode s) refl
 pub outcome-all : (s : List ℕ) (budget : ℕ) (ts es ps : List ℕ) → outcomeFor anyone s budget ts es ps ≡ outcome s budget ts es ps
 outcome-all s budget ts es ps = ap (λ (x : Decoded). outcomeOf x budget ts es ps) (decode-all s)
 
--- refusals 14 and 15, in that order, on every book
-module _ (s : List ℕ) (k : ℕ) (table : List ℕ) where
-  pub decode-14 : 31 < k → decodeFor (reader k table) s ≡ refused 14
+-- refusals 14 and 15, in that order, on every book, whatever the day
+module _ (s : List ℕ) (k : ℕ) (table : List ℕ) (d : Day) where
+  pub decode-14 : 31 < k → decodeFor (record { who = one k table; day = d }) s ≡ refused 14
   unfolding decodeFor
   decode-14 l = rw (lt-ltb 31 k l) refl
 
-  pub decode-15 : k ≤ 31 → (length table ≡ 1024 → ⊥) → decodeFor (reader k table) s ≡ refused 15
+  pub decode-15 : k ≤ 31 → (length table ≡ 1024 → ⊥) → decodeFor (record { who = one k table; day = d }) s ≡ refused 15
   unfolding decodeFor
   decode-15 l m = rw (le-ltb 31 k l, ne-eqb (length table) 1024 m) refl
 
-  module _ (l : k ≤ 31) (m : length table ≡ 1024) where
-    pub decode-read : decodeFor (reader k table) s ≡ spokenOf (reader k table) (decode s)
-    unfolding decodeFor
-    decode-read = rw (le-ltb 31 k l, eq-eqb (length table) 1024 m) refl
+-- what they leave: a reader below 32 with a word for each source, or none
+abbrev pub Admits : Who → Type 0
+Admits whoever = Unit {0}
+Admits (one k table) = (k ≤ 31) × (length table ≡ 1024)
 
-    -- a faulty book is refused for every reader
-    pub decode-fault : (n : ℕ) → decode s ≡ refused n → decodeFor (reader k table) s ≡ refused n
-    decode-fault n e = decode-read ∙ ap (spokenOf (reader k table)) e
+module _ (s : List ℕ) (r : Reader) (admits : Admits (r .who)) where
+  pub decode-read : decodeFor r s ≡ spokenOf r (decode s)
+  unfolding decodeFor
+  decode-read = go (r .who) admits (spokenOf r (decode s))
+    where
+      go : (w : Who) → Admits w → (x : Decoded) → admitted w x ≡ x
+      go whoever a x = refl
+      go (one k table) a x = rw (le-ltb 31 k (a .0), eq-eqb (length table) 1024 (a .1)) refl
 
-    -- the end and the lists are those of the book with the unreadable statements left out, as bytes
-    pub left-out : (B : Book) → decode s ≡ accepted B → (budget : ℕ) (ts es ps : List ℕ) → outcomeFor (reader k table) s budget ts es ps ≡ outcome (restated s B (heedings (reader k table) (B .statements))) budget ts es ps
-    left-out B e budget ts es ps = ap (λ (x : Decoded). outcomeOf x budget ts es ps) (decode-read ∙ (ap (spokenOf (reader k table)) e ∙ sym (spoken-bytes (reader k table) s B e)))
+  -- a faulty book is refused for every reader and on every day
+  pub decode-fault : (n : ℕ) → decode s ≡ refused n → decodeFor r s ≡ refused n
+  decode-fault n e = decode-read ∙ ap (spokenOf r) e
+
+  -- the end and the lists are those of the book with the statements left out that do not count, as bytes
+  pub left-out : (B : Book) → decode s ≡ accepted B → (budget : ℕ) (ts es ps : List ℕ) → outcomeFor r s budget ts es ps ≡ outcome (restated s B (heedings r (B .statements))) budget ts es ps
+  left-out B e budget ts es ps = ap (λ (x : Decoded). outcomeOf x budget ts es ps) (decode-read ∙ (ap (spokenOf r) e ∙ sym (spoken-bytes r s B e)))
 
 -- source 0 is open to all, whatever its word
 pub shared-readable : (k : ℕ) (table : List ℕ) (x : Statement) → x .source ≡ 0 → readable k table x ≡ true
 unfolding readable
 shared-readable k table x e = rw (eq-eqb (x .source) 0 e) refl
 
+-- a statement without days is in force on every day
+pub undated-in-force : (d : ℕ) (x : Statement) → x .first ≡ 0 → x .last ≡ 65535 → d < 65536 → inForce d x ≡ true
+unfolding inForce
+undated-in-force d x e f l = let p : d ≤ x .last = omega arith in let q : x .first ≤ d = omega arith in rw (le-leb (x .first) d q, le-leb d (x .last) p) refl
+
+-- so a book without days ends on every day as it does without one
+pub undated-outcome : (d : ℕ) → d < 65536 → (s : List ℕ) (B : Book) → decode s ≡ accepted B → Every (λ x. (x .first ≡ 0) × (x .last ≡ 65535)) (B .statements) → (budget : ℕ) (ts es ps : List ℕ) → outcomeFor (anyoneOn d) s budget ts es ps ≡ outcome s budget ts es ps
+unfolding heedings heeded
+undated-outcome d l s B book every budget ts es ps =
+    ap (λ (x : Decoded). outcomeOf x budget ts es ps) (decode-read s (anyoneOn d) tt ∙ (ap (spokenOf (anyoneOn d)) book ∙ (ap accepted same ∙ sym book)))
+  where
+    all : (xs : List Statement) → Every (λ x. (x .first ≡ 0) × (x .last ≡ 65535)) xs → heedings (anyoneOn d) xs ≡ xs
+    all [] e = refl
+    all (x ∷ xs) e = rw (undated-in-force d x (e .0 .0) (e .0 .1) l) (ap (λ (l : List Statement). x ∷ l) (all xs (e .1)))
+
+    same : spoken (anyoneOn d) B ≡ B
+    same = ap (withStatements B) (all (B .statements) every) ∙ counted s B book
+
 -- a loop over the statements takes them one by one
 pub heedings-next : (r : Reader) (x : Statement) (xs : List Statement) → heedings r (x ∷ xs) ≡ only (heeded r x) x ++ heedings r xs
 unfolding heedings
 heedings-next r x xs = refl
 
--- NON-INTERFERENCE. Two accepted books with equal header counts apart from statements, equal concept records, and equal readable statements in equal
--- order: for one reader and table, with equal budget and lists, a run of the one has the end and the lists of a run of the other.
-module _ (r : Reader) (s t : List ℕ) (B C : Book) (first : decode s ≡ accepted B) (second : decode t ≡ accepted C) (counts : SameCounts (B .counts) (C .counts)) (equal : heedings r (B .statements) ≡ heedings r (C .statements)) where
-  same-spoken : B .concepts ≡ C .concepts → spoken r B ≡ spoken r C
-  same-spoken e = λ i. record {
+-- those that count are those in force among the readable ones
+module _ (r : Reader) where
+  current : List Statement → List Statement
+  current xs = from xs λ x. only (inForceOn (r .day) x) x
+
+  current-readable : (xs : List Statement) → heedings r xs ≡ current (readables (r .who) xs)
+  unfolding heedings readables heeded current
+  current-readable [] = refl
+  current-readable (x ∷ xs) = go (inForceOn (r .day) x) (readableBy (r .who) x) refl (current-readable xs)
+    where
+      go : (a b : Bool) → inForceOn (r .day) x ≡ a → heedings r xs ≡ current (readables (r .who) xs) → only (a && b) x ++ heedings r xs ≡ current (only b x ++ readables (r .who) xs)
+      go true true e q = rw e (ap (λ (l : List Statement). x ∷ l) q)
+      go false true e q = rw e q
+      go true false e q = q
+      go false false e q = q
+
+  readable-heedings : (xs ys : List Statement) → readables (r .who) xs ≡ readables (r .who) ys → heedings r xs ≡ heedings r ys
+  readable-heedings xs ys e = current-readable xs ∙ (ap current e ∙ sym (current-readable ys))
+
+-- NON-INTERFERENCE. Two accepted books with equal header counts apart from statements and equal concept records: for one reader and table, on one day or
+-- on none, with equal budget and lists, a run of the one has the end and the lists of a run of the other
+module _ (r : Reader) (s t : List ℕ) (B C : Book) (first : decode s ≡ accepted B) (second : decode t ≡ accepted C) (counts : SameCounts (B .counts) (C .counts)) where
+  same-spoken : heedings r (B .statements) ≡ heedings r (C .statements) → B .concepts ≡ C .concepts → spoken r B ≡ spoken r C
+  same-spoken equal e = λ i. record {
     counts = record { classes = counts .classes i; roles = counts .roles i; individuals = counts .individuals i; concepts = counts .concepts i; statements = length (equal i) };
     concepts = e i;
     statements = equal i;
   }
 
-  -- concepts that are equal as trees, which equal records are
-  pub same-outcomes : B .concepts ≡ C .concepts → (budget : ℕ) (ts es ps : List ℕ) → outcomeFor r s budget ts es ps ≡ outcomeFor r t budget ts es ps
+  -- where equal statements count, in equal order, and the concepts are equal as trees, which equal records are
+  pub same-outcomes : heedings r (B .statements) ≡ heedings r (C .statements) → B .concepts ≡ C .concepts → (budget : ℕ) (ts es ps : List ℕ) → outcomeFor r s budget ts es ps ≡ outcomeFor r t budget ts es ps
   unfolding decodeFor
-  same-outcomes e budget ts es ps = ap (λ (x : Decoded). outcomeOf (admitted r x) budget ts es ps) (ap (spokenOf r) first ∙ (ap accepted (same-spoken e) ∙ sym (ap (spokenOf r) second)))
+  same-outcomes equal e budget ts es ps = ap (λ (x : Decoded). outcomeOf (admitted (r .who) x) budget ts es ps) (ap (spokenOf r) first ∙ (ap accepted (same-spoken equal e) ∙ sym (ap (spokenOf r) second)))
 
-  pub no-trace-readable : conceptBytes s B ≡ conceptBytes t C → (budget : ℕ) (ts es ps : List ℕ) → outcomeFor r s budget ts es ps ≡ outcomeFor r t budget ts es ps
-  no-trace-readable e = same-outcomes (same-concepts s t B C first second counts e)
+  pub no-trace : conceptBytes s B ≡ conceptBytes t C → heedings r (B .statements) ≡ heedings r (C .statements) → (budget : ℕ) (ts es ps : List ℕ) → outcomeFor r s budget ts es ps ≡ outcomeFor r t budget ts es ps
+  no-trace e equal = same-outcomes equal (same-concepts s t B C first second counts e)
+
+  -- and, as No. 9 says it, where equal statements are readable, in equal order, whatever their days
+  pub no-trace-readable : conceptBytes s B ≡ conceptBytes t C → readables (r .who) (B .statements) ≡ readables (r .who) (C .statements) → (budget : ℕ) (ts es ps : List ℕ) → outcomeFor r s budget ts es ps ≡ outcomeFor r t budget ts es ps
+  no-trace-readable e equal = no-trace e (readable-heedings r (B .statements) (C .statements) equal)

@@ -8,13 +8,11 @@ use Rattle.book.specs.Field.{byte, twoBytes, fourBytes, field, fieldsFrom, fiel
 use Rattle.book.specs.Table.{statementAllows}
 use Rattle.book.specs.Header.{header}
 use Rattle.book.specs.Concept.{conceptStart, partList, bound, conceptTail, conceptRest, concept}
-use Rattle.book.specs.Statement.{statementStart, pathOf, axiomOf, statementRest, statement}
+use Rattle.book.specs.Statement.{statementStart, pathOf, axiomOf, bare, statementEnd, statementRest, statement}
 use Rattle.book.specs.Tree.{Atomic, Top, Nominal, Some, And, none, more, partTrees}
 use Rattle.book.specs.Book.{Book, concepts, book, accepted, decode}
 use Rattle.book.specs.declared.role.Role.the-variants.{Named, Inverse}
 use Rattle.book.specs.declared.statement.SubRolePath.the-variants.{One}
-use Rattle.book.specs.declared.statement.Axiom.{Axiom}
-use Rattle.book.specs.declared.statement.Statement.{Statement}
 use Rattle.book.specs.declared.statement.Axiom.the-variants.{SubClassOf, EquivalentClasses, DisjointClasses, SubObjectPropertyOf, ObjectPropertyDomain, SameIndividual, ClassAssertion, ObjectPropertyAssertion}
 use Rattle.rules.specs.Ends.{Finished, Outcome, outcome}
 use Rattle.rules.specs.Plain.{anAtomic, simpleAtomic, simpleTop, simpleValue, nestedOne, nestedAnd, nestedNone, nestedMore, Plain}
@@ -22,10 +20,6 @@ use Rattle.rules.specs.Demand.{UnlistedFalse}
 use Rattle.rules.specs.Bars.{nines, plainBar}
 use Rattle.rules.proofs.Bars.{plain-holds}
 use Rattle.rules.proofs.Demand.{demand}
-
--- a statement of the shared book
-abbrev shared : Axiom → Statement
-shared a = record { body = a; source = 0 }
 
 abbrev pub B : Book
 B = record {
@@ -40,19 +34,19 @@ B = record {
       ∷ And (more (And (more (Atomic 2) none)) none)
       ∷ [];
   statements =
-      shared (SubClassOf 0 8)
-      ∷ shared (EquivalentClasses 1 2)
-      ∷ shared (DisjointClasses 0 3)
-      ∷ shared (SubObjectPropertyOf (One (Inverse 0)) (Named 1))
-      ∷ shared (ObjectPropertyDomain (Inverse 0) 12)
-      ∷ shared (SameIndividual 0 1)
-      ∷ shared (ClassAssertion 10 0)
-      ∷ shared (ObjectPropertyAssertion (Named 0) 0 2)
+      bare (SubClassOf 0 8)
+      ∷ bare (EquivalentClasses 1 2)
+      ∷ bare (DisjointClasses 0 3)
+      ∷ bare (SubObjectPropertyOf (One (Inverse 0)) (Named 1))
+      ∷ bare (ObjectPropertyDomain (Inverse 0) 12)
+      ∷ bare (SameIndividual 0 1)
+      ∷ bare (ClassAssertion 10 0)
+      ∷ bare (ObjectPropertyAssertion (Named 0) 0 2)
       ∷ [];
 }
 
 decodes : decode (plainBar .book) ≡ accepted B
-unfolding plainBar roleOf several byte twoBytes fourBytes field fieldsFrom fields statementAllows header conceptStart partList bound conceptTail conceptRest concept statementStart pathOf axiomOf statementRest statement partTrees concepts book decode
+unfolding plainBar roleOf several byte twoBytes fourBytes field fieldsFrom fields statementAllows header conceptStart partList bound conceptTail conceptRest concept statementStart pathOf axiomOf statementEnd statementRest statement partTrees concepts book decode
 decodes = refl
 
 plain : Plain B

@@ -10,6 +10,7 @@ use lib.ListN.{length}
 use borrow.Author.Tests.{lt-ltb, le-ltb, eq-eqb}
 use Rattle.book.specs.declared.header.Counts.{Counts}
 use Rattle.book.specs.declared.statement.Statement.{Statement}
+use Rattle.book.specs.Statement.{bare}
 use Rattle.book.specs.Tree.{Concept, Atomic}
 use Rattle.book.specs.Book.{Book, accepted, decode}
 use Rattle.book.specs.Within.{Every, StatementWithin}
@@ -18,7 +19,7 @@ use Rattle.book.proofs.Accepted.{accepted-statements, accepted-records}
 use Rattle.small.specs.Statements.{smallCounts, statementAt}
 use Rattle.small.specs.Books.{Small, statementCount, less, precedes, atomicBytes, bookOf, smallBooks, there, entryAt}
 use Rattle.small.proofs.Order.{apart, apart-less, apart-front, apart-behind, less-self}
-use Rattle.small.proofs.Statements.{statement-at-within, statement-at-shared, statement-at-apart, is-statement-at}
+use Rattle.small.proofs.Statements.{statement-at-within, statement-at-bare, statement-at-apart, is-statement-at}
 use Rattle.small.proofs.Read.{smallBook, book-accepted, accepted-laid}
 use Rattle.small.proofs.Places.{Stands, empty, one, two, stands-entry, entry-stands}
 
@@ -33,10 +34,10 @@ stands-within n p xs empty = tt
 stands-within n p xs (one {i = i} l) = (statement-at-within n i l, tt)
 stands-within n p xs (two {i = i} {j = j} l m) = (statement-at-within n i l, (statement-at-within n j m, tt))
 
-stands-shared : (p : ℕ) (xs : List Statement) → Stands p xs → Every (λ x. x .source ≡ 0) xs
-stands-shared p xs empty = tt
-stands-shared p xs (one {i = i} l) = (statement-at-shared i l, tt)
-stands-shared p xs (two {i = i} {j = j} l m) = (statement-at-shared i l, (statement-at-shared j m, tt))
+stands-bare : (p : ℕ) (xs : List Statement) → Stands p xs → Every (λ x. x ≡ bare (x .body)) xs
+stands-bare p xs empty = tt
+stands-bare p xs (one {i = i} l) = (statement-at-bare i l, tt)
+stands-bare p xs (two {i = i} {j = j} l m) = (statement-at-bare i l, (statement-at-bare j m, tt))
 
 stands-accepted : (p : ℕ) (xs : List Statement) → Stands p xs → decode (bookOf xs) ≡ accepted (smallBook xs)
 stands-accepted p xs w = book-accepted xs (stands-few p xs w) (stands-within (length xs) p xs w)
@@ -52,11 +53,11 @@ small-sound p s e =
       counts = refl;
       few = stands-few p xs (w .1);
       concepts = refl;
-      shared = stands-shared p xs (w .1);
+      unmarked = stands-bare p xs (w .1);
     }
 
 -- EVERY SMALL BOOK is an entry
-places : (n : ℕ) (xs : List Statement) → length xs ≤ 2 → Every (StatementWithin (smallCounts n)) xs → Every (λ x. x .source ≡ 0) xs → (p : ℕ) × Stands p xs
+places : (n : ℕ) (xs : List Statement) → length xs ≤ 2 → Every (StatementWithin (smallCounts n)) xs → Every (λ x. x ≡ bare (x .body)) xs → (p : ℕ) × Stands p xs
 places n [] l w z = (0, empty)
 places n (x ∷ []) l w z =
     let r = is-statement-at n x (w .0) (z .0) in
@@ -75,7 +76,7 @@ small-complete s bytes small =
     let k : length xs ≡ n = accepted-statements s B (small .read) in
     let same : B ≡ smallBook xs = same-book B (smallCounts (length xs)) (Atomic 0 ∷ []) (small .counts ∙ ap smallCounts (sym k)) (small .concepts) in
     let within : Every (StatementWithin (smallCounts n)) xs = subst (λ (h : Counts). Every (StatementWithin h) xs) (small .counts) (accepted-records s B (small .read)) in
-    let r = places n xs (omega (arith, small .few)) within (small .shared) in
+    let r = places n xs (omega (arith, small .few)) within (small .unmarked) in
     (r .0, stands-entry (r .0) xs (r .1) ∙ ap there (sym (accepted-laid s xs (small .read ∙ ap accepted same) bytes)))
   where
     same-book : (B : Book) (h : Counts) (ts : List Concept) → B .counts ≡ h → B .concepts ≡ ts → B ≡ record { counts = h; concepts = ts; statements = B .statements }

@@ -1,4 +1,4 @@
--- The statements: there are 61, they keep to the counts, their bytes ascend, and every statement that keeps to the counts and has no source is one of them.
+-- The statements: there are 61, they keep to the counts, their bytes ascend, and every statement that keeps to the counts and has neither source nor days is one of them.
 use Prim.Native.Nat.{ℕ, zero, suc, _-_, _≤_, _<_}
 use native.Mathlib.Omega.{arith}
 use mathlib.Core.Path.{_≡_, refl, sym, ap, _∙_, subst}
@@ -6,7 +6,7 @@ use mathlib.Core.Bool.{Bool, true, false, _&&_, _||_}
 use mathlib.Core.List.{List, [], _∷_}
 use lib.ListN.{length, getD}
 use lib.Dec.{ltb, eqb}
-use borrow.Author.Tests.{ltb-true, eqb-true}
+use borrow.Author.Tests.{ltb-true}
 use Rattle.book.specs.declared.statement.Axiom.{Axiom}
 use Rattle.book.specs.declared.statement.Statement.{Statement}
 use Rattle.book.specs.declared.role.Role.{Role}
@@ -18,11 +18,11 @@ use Rattle.book.specs.Read.{Read, value, refusal}
 use Rattle.book.specs.Role.{roleOf, roleId}
 use Rattle.book.specs.Field.{byte, twoBytes, field, fieldsFrom, fields}
 use Rattle.book.specs.Table.{statementAllows}
-use Rattle.book.specs.Statement.{statementStart, statementRest, statement, axiomOf, pathOf}
+use Rattle.book.specs.Statement.{statementStart, bare, statementEnd, statementRest, statement, axiomOf, pathOf}
 use Rattle.book.specs.Bytes.{statementBytes, repeats}
 use Rattle.book.proofs.statement.Laws.{statement-within}
 use Rattle.book.proofs.Bytes.{repeats-equal}
-use Rattle.small.specs.Statements.{smallCounts, smallStatements, sharedBy, spare, statementAt}
+use Rattle.small.specs.Statements.{smallCounts, smallStatements, spare, statementAt}
 use Rattle.small.specs.Laying.{fieldBytes, rowOf, rowBytes}
 use Rattle.small.proofs.Order.{apart}
 
@@ -56,7 +56,7 @@ abbrev reads : ℕ → Statement → Bool
 reads n x = readsAs x (statement (smallCounts n) (statementBytes x) 0)
 
 all-read : (n : ℕ) → all smallStatements (reads n) ≡ true
-unfolding smallStatements axiomOf pathOf roleOf statementBytes repeats statement statementStart statementRest statementAllows fields fieldsFrom field byte twoBytes
+unfolding smallStatements axiomOf pathOf roleOf statementBytes repeats statement statementStart statementEnd statementRest statementAllows fields fieldsFrom field byte twoBytes
 all-read n = refl
 
 read-within : (n : ℕ) (x : Statement) (r : Read Statement) → statement (smallCounts n) (statementBytes x) 0 ≡ r → readsAs x r ≡ true → StatementWithin (smallCounts n) x
@@ -68,13 +68,13 @@ statement-at-within n i l =
     let x = statementAt i in
     read-within n x (statement (smallCounts n) (statementBytes x) 0) refl (all-at (reads n) spare smallStatements i (all-read n) (omega (arith, statements-count)))
 
--- none has a source
-all-shared : all smallStatements (λ x. eqb (x .source) 0) ≡ true
-unfolding smallStatements
-all-shared = refl
+-- none has a source or days
+all-bare : all smallStatements (λ x. repeats x (bare (x .body))) ≡ true
+unfolding smallStatements axiomOf pathOf roleOf repeats
+all-bare = refl
 
-pub statement-at-shared : (i : ℕ) → i < 61 → statementAt i .source ≡ 0
-statement-at-shared i l = eqb-true (statementAt i .source) 0 (all-at (λ x. eqb (x .source) 0) spare smallStatements i all-shared (omega (arith, statements-count)))
+pub statement-at-bare : (i : ℕ) → i < 61 → statementAt i ≡ bare (statementAt i .body)
+statement-at-bare i l = repeats-equal (statementAt i) (bare (statementAt i .body)) (all-at (λ x. repeats x (bare (x .body))) spare smallStatements i all-bare (omega (arith, statements-count)))
 
 -- the bytes of each
 abbrev pub bytesEach : List Statement → List (List ℕ)
@@ -168,7 +168,7 @@ found d (y ∷ ys) x t = go (repeats y x) refl t (found d ys x)
     go false e u ih = let r = ih u in (suc (r .0), omega (arith, r .1), r .2)
 
 abbrev Member : Axiom → Type 0
-Member x = has smallStatements (sharedBy x) ≡ true
+Member x = has smallStatements (bare x) ≡ true
 
 one-role : (P : Role → Type 0) → P (Named 0) → P (Inverse 0) → (r : Role) → roleId r < 1 → P r
 one-role P a b (Named r) l = let q : 0 ≡ r = omega arith in subst (λ (x : ℕ). P (Named x)) q a
@@ -215,8 +215,7 @@ member n (ObjectPropertyAssertion r i j) w =
     two : (r : Role) → Member (ObjectPropertyAssertion r 0 0) → Member (ObjectPropertyAssertion r 0 1) → Member (ObjectPropertyAssertion r 1 0) → Member (ObjectPropertyAssertion r 1 1) → Member (ObjectPropertyAssertion r i j)
     two r a b c d = two-individuals (λ i. Member (ObjectPropertyAssertion r i j)) (two-individuals (λ j. Member (ObjectPropertyAssertion r 0 j)) a b j (w .2)) (two-individuals (λ j. Member (ObjectPropertyAssertion r 1 j)) c d j (w .2)) i (w .1)
 
-pub is-statement-at : (n : ℕ) (x : Statement) → StatementWithin (smallCounts n) x → x .source ≡ 0 → (i : ℕ) × (i < 61) × (statementAt i ≡ x)
+pub is-statement-at : (n : ℕ) (x : Statement) → StatementWithin (smallCounts n) x → x ≡ bare (x .body) → (i : ℕ) × (i < 61) × (statementAt i ≡ x)
 is-statement-at n x w e =
-    let r = found spare smallStatements (sharedBy (x .body)) (member n (x .body) (w .body)) in
-    let q : sharedBy (x .body) ≡ x = ap (λ (k : ℕ). record { body = x .body; source = k }) (sym e) in
-    (r .0, omega (arith, r .1, statements-count), r .2 ∙ q)
+    let r = found spare smallStatements (bare (x .body)) (member n (x .body) (w .body)) in
+    (r .0, omega (arith, r .1, statements-count), r .2 ∙ sym e)

@@ -6,6 +6,7 @@ use mathlib.Core.List.{List, [], _∷_, _++_}
 use lib.ListN.{length}
 use lib.Dec.{ltb, eqb}
 use Rattle.book.specs.declared.statement.Statement.{Statement}
+use Rattle.book.specs.Statement.{bare}
 use Rattle.book.specs.Tree.{Atomic}
 use Rattle.book.specs.Book.{Book, Decoded, accepted, refused, decode}
 use Rattle.book.specs.Bytes.{headerBytes, statementsBytes}
@@ -13,14 +14,14 @@ use Rattle.book.specs.Within.{Every}
 use Rattle.small.specs.Statements.{smallCounts, smallStatements, each}
 
 -- The bytes are a small book: accepted, with one class, one role, two individuals, the one concept Atomic 0 and at most two statements, none of
--- which has a source.
+-- which has a source or days.
 pub record Small (s : List ℕ) : Type 0 where
   pub book : Book
   pub read : decode s ≡ accepted book
   pub counts : book .counts ≡ smallCounts (book .counts .statements)
   pub few : book .counts .statements ≤ 2
   pub concepts : book .concepts ≡ Atomic 0 ∷ []
-  pub shared : Every (λ x. x .source ≡ 0) (book .statements)
+  pub unmarked : Every (λ x. x ≡ bare (x .body)) (book .statements)
 
 -- how many statements a byte string has as a book
 abbrev pub statementCount : Decoded → ℕ

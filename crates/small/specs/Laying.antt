@@ -22,7 +22,7 @@ unfoldable pub fieldBytes : ℕ → ℕ → ℕ → List ℕ
 fieldBytes zero map values = []
 fieldBytes (suc n) map values = pick (eqb (map % 2) 0) [] (values % 2 ∷ 0 ∷ []) ++ fieldBytes n (map / 2) (values / 2)
 
--- A row of the table: kind, map and values, a byte each; and what it stands for. No statement has a source.
+-- A row of the table: kind, map and values, a byte each; and what it stands for. No statement has a source or days.
 abbrev pub valuesOf : List Place → ℕ
 valuesOf [] = 0
 valuesOf (gap ∷ ps) = 2 * valuesOf ps

@@ -5,13 +5,12 @@ use lib.ListN.{length, getD}
 use lib.Dec.{eqb}
 use Rattle.book.specs.declared.header.Counts.{Counts}
 use Rattle.book.specs.declared.table.Start.{Start}
-use Rattle.book.specs.declared.statement.Axiom.{Axiom}
 use Rattle.book.specs.declared.statement.Statement.{Statement}
 use Rattle.book.specs.declared.statement.Axiom.the-variants.{TransitiveRole}
 use Rattle.book.specs.declared.role.Role.the-variants.{Named}
 use Rattle.book.specs.Read.{pick}
 use Rattle.book.specs.Table.{statementMaps}
-use Rattle.book.specs.Statement.{statementLimits, unmarked, statementOf}
+use Rattle.book.specs.Statement.{statementLimits, unmarked, statementOf, bare}
 use Rattle.book.specs.Bytes.{Place, gap, put, fill}
 
 -- one class, one role, two individuals, one concept, and n statements
@@ -55,19 +54,15 @@ choices (suc n) k map limits =
     let here = pick (eqb (map % 2) 0) (gap ∷ []) (each (below (getD limits k 0)) λ v. put v ∷ []) in
     each here λ p. each rest λ ps. (p ∷ ps) ∷ []
 
--- THE STATEMENTS, in the order of their bytes; bits 0 to 7 of the map have their fields, and no statement has a source
+-- THE STATEMENTS, in the order of their bytes; bits 0 to 7 of the map have their fields, and no statement has a source or days
 unfoldable pub smallStatements : List Statement
 smallStatements =
     each starts λ start.
     each (choices 8 0 (start .map) (statementLimits (smallCounts 0))) λ places. statementOf start (fill 0 places unmarked) ∷ []
 
--- a statement of the shared book
-abbrev pub sharedBy : Axiom → Statement
-sharedBy x = record { body = x; source = 0 }
-
 -- past the last
 abbrev pub spare : Statement
-spare = sharedBy (TransitiveRole (Named 0))
+spare = bare (TransitiveRole (Named 0))
 
 -- the statement at a place of this order
 abbrev pub statementAt : ℕ → Statement

@@ -131,9 +131,18 @@ kept-snoc (x ∷ xs) y =
     last false true e = refl
     last false false e = rw e refl
 
--- a repeat has the same source, so of two statements with different sources neither repeats the other
+-- a repeat has the same source and the same days, so of two statements with different ones neither repeats the other
 pub sources-read : (x y : Statement) → repeats x y ≡ true → x .source ≡ y .source
 sources-read x y t = ap (λ (z : Statement). z .source) (repeats-equal x y t)
 
+pub periods-read : (x y : Statement) → repeats x y ≡ true → (x .first ≡ y .first) × (x .last ≡ y .last)
+periods-read x y t = (ap (λ (z : Statement). z .first) (repeats-equal x y t), ap (λ (z : Statement). z .last) (repeats-equal x y t))
+
+apart-stay : (x y : Statement) → (repeats x y ≡ true → ⊥) → kept (x ∷ y ∷ []) ≡ x ∷ y ∷ []
+apart-stay x y d = kept-different (x ∷ y ∷ []) ((not-true _ d, tt), (tt, tt))
+
 pub sources-stay : (x y : Statement) → (x .source ≡ y .source → ⊥) → kept (x ∷ y ∷ []) ≡ x ∷ y ∷ []
-sources-stay x y d = kept-different (x ∷ y ∷ []) ((not-true _ (λ t. d (sources-read x y t)), tt), (tt, tt))
+sources-stay x y d = apart-stay x y (λ t. d (sources-read x y t))
+
+pub periods-stay : (x y : Statement) → ((x .first ≡ y .first) × (x .last ≡ y .last) → ⊥) → kept (x ∷ y ∷ []) ≡ x ∷ y ∷ []
+periods-stay x y d = apart-stay x y (λ t. d (periods-read x y t))

@@ -8,14 +8,14 @@ use Rattle.book.specs.declared.statement.Statement.{Statement}
 use Rattle.book.specs.declared.statement.Axiom.the-variants.{TransitiveRole}
 use Rattle.book.specs.declared.role.Role.the-variants.{Named}
 use Rattle.book.specs.Read.{value}
-use Rattle.book.specs.Statement.{statement}
+use Rattle.book.specs.Statement.{bare, statement}
 use Rattle.book.specs.Reader.{rest}
 use Rattle.writer.specs.Kept.{kept}
 use Rattle.writer.specs.Tree.{Tree}
 
 -- past the end of a list of statements
 abbrev pub spare : Statement
-spare = record { body = TransitiveRole (Named 0); source = 0 }
+spare = bare (TransitiveRole (Named 0))
 
 -- the kept record k is read as the statement k of the list
 abbrev pub ReadsAt : List ℕ → Counts → List Statement → List ℕ → List ℕ → ℕ → Type 0

@@ -1,4 +1,4 @@
--- Which statements stay: each but those that repeat an earlier one in kind and fields, the source among them.
+-- Which statements stay: each but those that repeat an earlier one in kind and fields, source and days among them.
 use mathlib.Core.Path.{_≡_}
 use mathlib.Core.Bool.{Bool, false, not}
 use mathlib.Core.List.{List, [], _∷_, _++_}

@@ -1,6 +1,6 @@
 -- The records kept so far as a digital search tree: record 0 is its root, and entry 16 * k + x of `child` is the record below record k for the digit x, or 0 for none.
 -- A record is found on the way from the root by its own digits. Two records on one way agree in every digit above the lower one, so a way is no longer than
--- a record has digits, and one more: at most 27 records of at most 13 bytes.
+-- a record has digits, and one more: at most 35 records of at most 17 bytes.
 use Prim.Native.Nat.{ℕ, suc, _+_, _*_, _≤_, _<_}
 use mathlib.Core.Path.{_≡_}
 use mathlib.Core.List.{List}

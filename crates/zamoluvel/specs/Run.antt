@@ -1,5 +1,6 @@
 -- Ends as numbers, for callers in other languages.
 use Prim.Native.Nat.{ℕ, _+_, _*_}
+use mathlib.Core.List.{List, [], _∷_}
 use lib.Dec.{eqb}
 use Rattle.book.specs.Read.{pick}
 use Rattle.rules.specs.Ends.{End, Finished, Clash, Spent, Refused}
@@ -29,6 +30,10 @@ pairCount (Finished t e p) = p
 pairCount (Clash t e) = 0
 pairCount Spent = 0
 pairCount (Refused n) = 0
+
+-- all three, in one array
+abbrev pub threeCounts : End → List ℕ
+threeCounts e = typeCount e ∷ edgeCount e ∷ pairCount e ∷ []
 
 -- how many entries of the named list, 0 the edge list and 1 the pair list, the facts fill: none at any end but finished
 abbrev pub filledEntries : ℕ → ℕ → ℕ → ℕ → ℕ

@@ -2,12 +2,14 @@
 ghost use mathlib.Core.Path.{_≡_};
 ghost use Rattle.book.specs.Book.{Book, accepted, decode};
 ghost use Rattle.rules.specs.Ends.{outcome};
-ghost use Rattle.rules.specs.Spoken.{reader as named, spoken, outcomeFor};
+ghost use Rattle.rules.specs.Spoken.{reader as named, anyoneOn, readerOn, spoken, outcomeFor};
 ghost use Rattle.rules.specs.Demand.{Demand};
 ghost use Rattle.verdict.specs.Conclude.{endOf, came};
-ghost use Rattle.zamoluvel.specs.Run.{codeOf, typeCount, edgeCount, pairCount, filledEntries};
+ghost use Rattle.zamoluvel.specs.Run.{codeOf, typeCount, edgeCount, pairCount, threeCounts, filledEntries};
 use saturation::saturate::saturate;
 use saturation::saturate::saturate_for;
+use saturation::saturate::saturate_for_on;
+use saturation::saturate::saturate_on;
 use verdict::end::End;
 
 fn code_of(end: End) -> u32
@@ -94,7 +96,6 @@ fn entries_of(edge_count: u32, pair_count: u32, named: u32) -> usize
     0
 }
 
-// The named part: so many entries from the first on of the edge list (named = 0) or of the pair list (named = 1), as a run with this code and these counts
 // `saturate_for`, the same way.
 #[no_mangle]
 pub extern "C" fn zamoluvel_saturate_for(
@@ -125,6 +126,55 @@ pub extern "C" fn zamoluvel_saturate_for(
     code_of(end)
 }
 
+// `saturate_on`, with the three counts in one array.
+#[no_mangle]
+pub extern "C" fn zamoluvel_saturate_on(
+    book: &[u8],
+    budget: u64,
+    types: &mut [u32],
+    edges: &mut [u32],
+    pairs: &mut [u32],
+    day: u16,
+    counts: &mut [u32; 3],
+) -> u32
+    ensures { λ r. ⌜ r ≡ codeOf (outcomeFor (anyoneOn day) (now (book .entry)) budget (now (types .entry)) (now (edges .entry)) (now (pairs .entry)) .end) ⌝ }
+    ensures { λ _. ⌜ now (counts .exit) ≡ threeCounts (outcomeFor (anyoneOn day) (now (book .entry)) budget (now (types .entry)) (now (edges .entry)) (now (pairs .entry)) .end) ⌝ }
+    ensures { λ _. ⌜ now (types .exit) ≡ outcomeFor (anyoneOn day) (now (book .entry)) budget (now (types .entry)) (now (edges .entry)) (now (pairs .entry)) .types ⌝ }
+    ensures { λ _. ⌜ now (edges .exit) ≡ outcomeFor (anyoneOn day) (now (book .entry)) budget (now (types .entry)) (now (edges .entry)) (now (pairs .entry)) .edges ⌝ }
+    ensures { λ _. ⌜ now (pairs .exit) ≡ outcomeFor (anyoneOn day) (now (book .entry)) budget (now (types .entry)) (now (edges .entry)) (now (pairs .entry)) .pairs ⌝ }
+    ensures { λ _. ⌜ ((B : Book) → decode (now (book .entry)) ≡ accepted B → Demand (spoken (anyoneOn day) B) (outcomeFor (anyoneOn day) (now (book .entry)) budget (now (types .entry)) (now (edges .entry)) (now (pairs .entry)))) ⌝ }
+{
+    let end = saturate_on(book, budget, types, edges, pairs, day);
+    *counts = [types_of(end), edges_of(end), pairs_of(end)];
+    code_of(end)
+}
+
+// `saturate_for_on`, the same way.
+#[no_mangle]
+pub extern "C" fn zamoluvel_saturate_for_on(
+    book: &[u8],
+    budget: u64,
+    types: &mut [u32],
+    edges: &mut [u32],
+    pairs: &mut [u32],
+    reader: u32,
+    table: &[u32],
+    day: u16,
+    counts: &mut [u32; 3],
+) -> u32
+    ensures { λ r. ⌜ r ≡ codeOf (outcomeFor (readerOn reader (now (table .entry)) day) (now (book .entry)) budget (now (types .entry)) (now (edges .entry)) (now (pairs .entry)) .end) ⌝ }
+    ensures { λ _. ⌜ now (counts .exit) ≡ threeCounts (outcomeFor (readerOn reader (now (table .entry)) day) (now (book .entry)) budget (now (types .entry)) (now (edges .entry)) (now (pairs .entry)) .end) ⌝ }
+    ensures { λ _. ⌜ now (types .exit) ≡ outcomeFor (readerOn reader (now (table .entry)) day) (now (book .entry)) budget (now (types .entry)) (now (edges .entry)) (now (pairs .entry)) .types ⌝ }
+    ensures { λ _. ⌜ now (edges .exit) ≡ outcomeFor (readerOn reader (now (table .entry)) day) (now (book .entry)) budget (now (types .entry)) (now (edges .entry)) (now (pairs .entry)) .edges ⌝ }
+    ensures { λ _. ⌜ now (pairs .exit) ≡ outcomeFor (readerOn reader (now (table .entry)) day) (now (book .entry)) budget (now (types .entry)) (now (edges .entry)) (now (pairs .entry)) .pairs ⌝ }
+    ensures { λ _. ⌜ ((B : Book) → decode (now (book .entry)) ≡ accepted B → Demand (spoken (readerOn reader (now (table .entry)) day) B) (outcomeFor (readerOn reader (now (table .entry)) day) (now (book .entry)) budget (now (types .entry)) (now (edges .entry)) (now (pairs .entry)))) ⌝ }
+{
+    let end = saturate_for_on(book, budget, types, edges, pairs, reader, table, day);
+    *counts = [types_of(end), edges_of(end), pairs_of(end)];
+    code_of(end)
+}
+
+// The named part: so many entries from the first on of the edge list (named = 0) or of the pair list (named = 1), as a run with this code and these counts
 // left them. The list is the caller's, and so is the part.
 #[no_mangle]
 pub extern "C" fn zamoluvel_named_part(

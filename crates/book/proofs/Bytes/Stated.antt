@@ -5,8 +5,8 @@ use mathlib.Core.Path.{_≡_, refl, sym, ap, ap₂, _∙_, subst, subst₂}
 use mathlib.Core.Bool.{Bool, true, false, not, _&&_, _||_}
 use mathlib.Core.List.{List, [], _∷_, _++_, append-assoc, append-nil}
 use lib.ListN.{length, getD, set, replicate, length-append}
-use lib.Dec.{ltb, eqb, lit<, lit≤}
-use borrow.Author.Tests.{lt-ltb, eqb-true, eqb-false, eq-eqb}
+use lib.Dec.{ltb, leb, eqb, lit<, lit≤}
+use borrow.Author.Tests.{lt-ltb, le-leb, eqb-true, eqb-false, eq-eqb}
 use Rattle.book.specs.declared.header.Counts.{Counts}
 use Rattle.book.specs.declared.table.Start.{Start}
 use Rattle.book.specs.declared.statement.Axiom.{Axiom}
@@ -19,7 +19,7 @@ use Rattle.book.specs.Header.{Limits}
 use Rattle.book.specs.declared.statement.SubRolePath.the-variants.{One, Two, Three}
 use Rattle.book.specs.declared.statement.Axiom.the-variants.{SubClassOf, EquivalentClasses, DisjointClasses, InverseObjectProperties, SubObjectPropertyOf, TransitiveRole, SymmetricRole, FunctionalRole, InverseFunctionalRole, ObjectPropertyDomain, ObjectPropertyRange, SameIndividual, ClassAssertion, ObjectPropertyAssertion}
 use Rattle.book.specs.Table.{statementAllows}
-use Rattle.book.specs.Statement.{statementStart, statementLimits, unmarked, pathOf, axiomOf, statementOf, statementRest, statement}
+use Rattle.book.specs.Statement.{statementStart, statementLimits, unmarked, pathOf, axiomOf, statementOf, statementEnd, statementRest, statement}
 use Rattle.book.specs.Within.{Every, RoleWithin, Within, StatementWithin}
 use Rattle.book.specs.Field.{byte, twoBytes, fields}
 use Rattle.book.specs.Bytes.{Has, twoOf, Place, gap, put, mapOf, bytesOf, mark, marks, padded, formOf, wholeOf, statementBytes, statementsBytes, samePlace, samePlaces, repeats, fill, placesOf}
@@ -49,53 +49,57 @@ own x = padded 8 (formOf x .places)
 startOf : Axiom → Start
 startOf x = record { kind = formOf x .kind; map = mapOf (own x) }
 
+-- source and days among the values
+abbrev put-marks : ℕ → ℕ → ℕ → List ℕ → List ℕ
+put-marks n f l v = set (set (set v 8 n) 9 f) 10 l
+
 record Known (x : Axiom) : Type 0 where
   some : not (eqb (formOf x .kind) 0) ≡ true
   few : ltb (formOf x .kind) 15 ≡ true
   allowed : statementAllows (formOf x .kind) (mapOf (own x)) ≡ true
   eight : length (own x) ≡ 8
   number : mapOf (own x) < 256
-  clear : getD (fill 0 (own x) unmarked) 8 0 ≡ 0
-  source : (n : ℕ) → getD (set (fill 0 (own x) unmarked) 8 n) 8 0 ≡ n
+  clear : (n f : ℕ) → let v = fill 0 (own x) unmarked in (getD v 8 0 ≡ 0) × (getD (set v 8 n) 9 0 ≡ 0) × (getD (set (set v 8 n) 9 f) 10 0 ≡ 65535)
+  marked : (n f l : ℕ) → let v = put-marks n f l (fill 0 (own x) unmarked) in (getD v 8 0 ≡ n) × (getD v 9 0 ≡ f) × (getD v 10 0 ≡ l)
 
 known : (x : Axiom) → Known x
 unfolding statementAllows
-known (SubClassOf c d) = record { some = refl; few = refl; allowed = refl; eight = refl; number = lit< tt; clear = refl; source = λ n. refl }
-known (EquivalentClasses c d) = record { some = refl; few = refl; allowed = refl; eight = refl; number = lit< tt; clear = refl; source = λ n. refl }
-known (DisjointClasses c d) = record { some = refl; few = refl; allowed = refl; eight = refl; number = lit< tt; clear = refl; source = λ n. refl }
-known (InverseObjectProperties r s) = record { some = refl; few = refl; allowed = refl; eight = refl; number = lit< tt; clear = refl; source = λ n. refl }
-known (SubObjectPropertyOf (One r) t) = record { some = refl; few = refl; allowed = refl; eight = refl; number = lit< tt; clear = refl; source = λ n. refl }
-known (SubObjectPropertyOf (Two r s) t) = record { some = refl; few = refl; allowed = refl; eight = refl; number = lit< tt; clear = refl; source = λ n. refl }
-known (SubObjectPropertyOf (Three r s u) t) = record { some = refl; few = refl; allowed = refl; eight = refl; number = lit< tt; clear = refl; source = λ n. refl }
-known (TransitiveRole r) = record { some = refl; few = refl; allowed = refl; eight = refl; number = lit< tt; clear = refl; source = λ n. refl }
-known (SymmetricRole r) = record { some = refl; few = refl; allowed = refl; eight = refl; number = lit< tt; clear = refl; source = λ n. refl }
-known (FunctionalRole r) = record { some = refl; few = refl; allowed = refl; eight = refl; number = lit< tt; clear = refl; source = λ n. refl }
-known (InverseFunctionalRole r) = record { some = refl; few = refl; allowed = refl; eight = refl; number = lit< tt; clear = refl; source = λ n. refl }
-known (ObjectPropertyDomain r c) = record { some = refl; few = refl; allowed = refl; eight = refl; number = lit< tt; clear = refl; source = λ n. refl }
-known (ObjectPropertyRange r c) = record { some = refl; few = refl; allowed = refl; eight = refl; number = lit< tt; clear = refl; source = λ n. refl }
-known (SameIndividual i j) = record { some = refl; few = refl; allowed = refl; eight = refl; number = lit< tt; clear = refl; source = λ n. refl }
-known (ClassAssertion c i) = record { some = refl; few = refl; allowed = refl; eight = refl; number = lit< tt; clear = refl; source = λ n. refl }
-known (ObjectPropertyAssertion r i j) = record { some = refl; few = refl; allowed = refl; eight = refl; number = lit< tt; clear = refl; source = λ n. refl }
+known (SubClassOf c d) = record { some = refl; few = refl; allowed = refl; eight = refl; number = lit< tt; clear = λ n f. (refl, refl, refl); marked = λ n f l. (refl, refl, refl) }
+known (EquivalentClasses c d) = record { some = refl; few = refl; allowed = refl; eight = refl; number = lit< tt; clear = λ n f. (refl, refl, refl); marked = λ n f l. (refl, refl, refl) }
+known (DisjointClasses c d) = record { some = refl; few = refl; allowed = refl; eight = refl; number = lit< tt; clear = λ n f. (refl, refl, refl); marked = λ n f l. (refl, refl, refl) }
+known (InverseObjectProperties r s) = record { some = refl; few = refl; allowed = refl; eight = refl; number = lit< tt; clear = λ n f. (refl, refl, refl); marked = λ n f l. (refl, refl, refl) }
+known (SubObjectPropertyOf (One r) t) = record { some = refl; few = refl; allowed = refl; eight = refl; number = lit< tt; clear = λ n f. (refl, refl, refl); marked = λ n f l. (refl, refl, refl) }
+known (SubObjectPropertyOf (Two r s) t) = record { some = refl; few = refl; allowed = refl; eight = refl; number = lit< tt; clear = λ n f. (refl, refl, refl); marked = λ n f l. (refl, refl, refl) }
+known (SubObjectPropertyOf (Three r s u) t) = record { some = refl; few = refl; allowed = refl; eight = refl; number = lit< tt; clear = λ n f. (refl, refl, refl); marked = λ n f l. (refl, refl, refl) }
+known (TransitiveRole r) = record { some = refl; few = refl; allowed = refl; eight = refl; number = lit< tt; clear = λ n f. (refl, refl, refl); marked = λ n f l. (refl, refl, refl) }
+known (SymmetricRole r) = record { some = refl; few = refl; allowed = refl; eight = refl; number = lit< tt; clear = λ n f. (refl, refl, refl); marked = λ n f l. (refl, refl, refl) }
+known (FunctionalRole r) = record { some = refl; few = refl; allowed = refl; eight = refl; number = lit< tt; clear = λ n f. (refl, refl, refl); marked = λ n f l. (refl, refl, refl) }
+known (InverseFunctionalRole r) = record { some = refl; few = refl; allowed = refl; eight = refl; number = lit< tt; clear = λ n f. (refl, refl, refl); marked = λ n f l. (refl, refl, refl) }
+known (ObjectPropertyDomain r c) = record { some = refl; few = refl; allowed = refl; eight = refl; number = lit< tt; clear = λ n f. (refl, refl, refl); marked = λ n f l. (refl, refl, refl) }
+known (ObjectPropertyRange r c) = record { some = refl; few = refl; allowed = refl; eight = refl; number = lit< tt; clear = λ n f. (refl, refl, refl); marked = λ n f l. (refl, refl, refl) }
+known (SameIndividual i j) = record { some = refl; few = refl; allowed = refl; eight = refl; number = lit< tt; clear = λ n f. (refl, refl, refl); marked = λ n f l. (refl, refl, refl) }
+known (ClassAssertion c i) = record { some = refl; few = refl; allowed = refl; eight = refl; number = lit< tt; clear = λ n f. (refl, refl, refl); marked = λ n f l. (refl, refl, refl) }
+known (ObjectPropertyAssertion r i j) = record { some = refl; few = refl; allowed = refl; eight = refl; number = lit< tt; clear = λ n f. (refl, refl, refl); marked = λ n f l. (refl, refl, refl) }
 
--- a form says which statement it is of, whatever its source
-axiom-filled : (x : Axiom) (n : ℕ) → axiomOf (startOf x) (set (fill 0 (own x) unmarked) 8 n) ≡ x
+-- a form says which statement it is of, whatever its source and its days
+axiom-filled : (x : Axiom) (n f l : ℕ) → axiomOf (startOf x) (put-marks n f l (fill 0 (own x) unmarked)) ≡ x
 unfolding axiomOf pathOf startOf
-axiom-filled (SubClassOf c d) n = refl
-axiom-filled (EquivalentClasses c d) n = refl
-axiom-filled (DisjointClasses c d) n = refl
-axiom-filled (InverseObjectProperties r s) n = simp role-of-field
-axiom-filled (SubObjectPropertyOf (One r) t) n = simp role-of-field
-axiom-filled (SubObjectPropertyOf (Two r s) t) n = simp role-of-field
-axiom-filled (SubObjectPropertyOf (Three r s u) t) n = simp role-of-field
-axiom-filled (TransitiveRole r) n = simp role-of-field
-axiom-filled (SymmetricRole r) n = simp role-of-field
-axiom-filled (FunctionalRole r) n = simp role-of-field
-axiom-filled (InverseFunctionalRole r) n = simp role-of-field
-axiom-filled (ObjectPropertyDomain r c) n = simp role-of-field
-axiom-filled (ObjectPropertyRange r c) n = simp role-of-field
-axiom-filled (SameIndividual i j) n = refl
-axiom-filled (ClassAssertion c i) n = refl
-axiom-filled (ObjectPropertyAssertion r i j) n = simp role-of-field
+axiom-filled (SubClassOf c d) n f l = refl
+axiom-filled (EquivalentClasses c d) n f l = refl
+axiom-filled (DisjointClasses c d) n f l = refl
+axiom-filled (InverseObjectProperties r s) n f l = simp role-of-field
+axiom-filled (SubObjectPropertyOf (One r) t) n f l = simp role-of-field
+axiom-filled (SubObjectPropertyOf (Two r s) t) n f l = simp role-of-field
+axiom-filled (SubObjectPropertyOf (Three r s u) t) n f l = simp role-of-field
+axiom-filled (TransitiveRole r) n f l = simp role-of-field
+axiom-filled (SymmetricRole r) n f l = simp role-of-field
+axiom-filled (FunctionalRole r) n f l = simp role-of-field
+axiom-filled (InverseFunctionalRole r) n f l = simp role-of-field
+axiom-filled (ObjectPropertyDomain r c) n f l = simp role-of-field
+axiom-filled (ObjectPropertyRange r c) n f l = simp role-of-field
+axiom-filled (SameIndividual i j) n f l = refl
+axiom-filled (ClassAssertion c i) n f l = refl
+axiom-filled (ObjectPropertyAssertion r i j) n f l = simp role-of-field
 
 -- and so does a whole record's
 whole-map : (x : Statement) → mapOf (wholeOf x .places) ≡ mapOf (own (x .body)) + 256 * mapOf (marks x)
@@ -106,8 +110,15 @@ whole-map x =
     eightfold : (a b m : ℕ) → a ≡ b + (2 * (2 * (2 * (2 * (2 * (2 * (2 * (2 * m)))))))) → a ≡ b + 256 * m
     eightfold a b m e = omega arith
 
-marks-map : (x : Statement) → mapOf (marks x) ≤ 1
-marks-map x = mark-map 0 (x .source) []
+marks-map : (x : Statement) → mapOf (marks x) ≤ 7
+marks-map x =
+    let l = mark-map 65535 (x .last) [] in
+    let f = mark-map 0 (x .first) (mark 65535 (x .last) ∷ []) in
+    let n = mark-map 0 (x .source) (mark 0 (x .first) ∷ mark 65535 (x .last) ∷ []) in
+    nested _ _ _ l f n
+  where
+    nested : (a b c : ℕ) → a ≤ 2 * 0 + 1 → b ≤ 2 * a + 1 → c ≤ 2 * b + 1 → c ≤ 7
+    nested a b c p q r = omega arith
 
 whole-low : (x : Statement) → mapOf (wholeOf x .places) % 256 ≡ mapOf (own (x .body))
 whole-low x = low _ _ _ (whole-map x) (known (x .body) .number)
@@ -115,10 +126,10 @@ whole-low x = low _ _ _ (whole-map x) (known (x .body) .number)
     low : (a b m : ℕ) → a ≡ b + 256 * m → b < 256 → a % 256 ≡ b
     low a b m e l = omega arith
 
-whole-top : (x : Statement) → mapOf (wholeOf x .places) < 512
+whole-top : (x : Statement) → mapOf (wholeOf x .places) < 2048
 whole-top x = top _ _ _ (whole-map x) (known (x .body) .number) (marks-map x)
   where
-    top : (a b m : ℕ) → a ≡ b + 256 * m → b < 256 → m ≤ 1 → a < 512
+    top : (a b m : ℕ) → a ≡ b + 256 * m → b < 256 → m ≤ 7 → a < 2048
     top a b m e l n = omega arith
 
 whole-short : (x : Statement) → length (wholeOf x .places) ≤ 16
@@ -131,12 +142,22 @@ statement-filled : (x : Statement) → statementOf (wholeStart x) (fill 0 (whole
 unfolding startOf
 statement-filled x =
     let a = own (x .body) in
-    let v = set (fill 0 a unmarked) 8 (x .source) in
+    let u = fill 0 a unmarked in
+    let v = put-marks (x .source) (x .first) (x .last) u in
     let k = known (x .body) in
-    let q : fill 0 (wholeOf x .places) unmarked ≡ v = fill-append 0 a (marks x) unmarked ∙ (ap (λ (n : ℕ). fill (0 + n) (marks x) (fill 0 a unmarked)) (k .eight) ∙ mark-fill 8 0 (x .source) [] (fill 0 a unmarked) (k .clear)) in
+    let clear = k .clear (x .source) (x .first) in
+    let marked = k .marked (x .source) (x .first) (x .last) in
+    let put : fill 8 (marks x) u ≡ v =
+    mark-fill 8 0 (x .source) (mark 0 (x .first) ∷ mark 65535 (x .last) ∷ []) u (clear .0)
+    ∙ (mark-fill 9 0 (x .first) (mark 65535 (x .last) ∷ []) (set u 8 (x .source)) (clear .1)
+    ∙ mark-fill 10 65535 (x .last) [] (set (set u 8 (x .source)) 9 (x .first)) (clear .2)) in
+    let q : fill 0 (wholeOf x .places) unmarked ≡ v = fill-append 0 a (marks x) unmarked ∙ (ap (λ (n : ℕ). fill (0 + n) (marks x) u) (k .eight) ∙ put) in
     let start = wholeStart x in
-    let low : axiomOf start v ≡ x .body = sym (axiom-low (start .kind) (start .map) v) ∙ (ap (λ (m : ℕ). axiomOf (record { kind = start .kind; map = m }) v) (whole-low x) ∙ axiom-filled (x .body) (x .source)) in
-    ap (statementOf start) q ∙ ap₂ (λ (b : Axiom) (n : ℕ). record { body = b; source = n }) low (k .source (x .source))
+    let low : axiomOf start v ≡ x .body = sym (axiom-low (start .kind) (start .map) v) ∙ (ap (λ (m : ℕ). axiomOf (record { kind = start .kind; map = m }) v) (whole-low x) ∙ axiom-filled (x .body) (x .source) (x .first) (x .last)) in
+    ap (statementOf start) q ∙ made (axiomOf start v) (getD v 8 0) (getD v 9 0) (getD v 10 0) low (marked .0) (marked .1) (marked .2)
+  where
+    made : (b : Axiom) (n f l : ℕ) → b ≡ x .body → n ≡ x .source → f ≡ x .first → l ≡ x .last → record { body = b; source = n; first = f; last = l } ≡ x
+    made b n f l p q r s = rw (p, q, r, s) refl
 
 role-fits : (r : Role) (n : ℕ) → roleId r < n → fieldOf r < 2 * n
 role-fits (Named r) n l = omega arith
@@ -172,12 +193,15 @@ module _ (h : Counts) (lim : Limits h) where
 
   whole-fits : (x : Statement) → StatementWithin h x → Fit (statementLimits h) unmarked 0 (wholeOf x .places)
   whole-fits x w =
-      fit-append (statementLimits h) unmarked 0 (own (x .body)) (marks x) (form-fits (x .body) (w .body))
-      (rw (known (x .body) .eight) (mark-fit (statementLimits h) unmarked 8 0 (x .source) [] refl (w .source-top) tt))
+      let limits = statementLimits h in
+      let last = mark-fit limits unmarked 10 65535 (x .last) [] refl (w .last-top) tt in
+      let first = mark-fit limits unmarked 9 0 (x .first) (mark 65535 (x .last) ∷ []) refl (omega (arith, w .period, w .last-top)) last in
+      fit-append limits unmarked 0 (own (x .body)) (marks x) (form-fits (x .body) (w .body))
+      (rw (known (x .body) .eight) (mark-fit limits unmarked 8 0 (x .source) (mark 0 (x .first) ∷ mark 65535 (x .last) ∷ []) refl (w .source-top) first))
 
-  statement-of : (s : List ℕ) (at k a m b : ℕ) (v : List ℕ) (e : ℕ) → byte s at ≡ value k a → not (eqb k 0) ≡ true → ltb k 15 ≡ true → twoBytes s a ≡ value m b → ltb m 512 ≡ true → statementAllows k (m % 256) ≡ true → fields m (statementLimits h) unmarked 9 s b ≡ value v e → statement h s at ≡ value (statementOf (record { kind = k; map = m }) v) e
-  unfolding statement statementStart statementRest
-  statement-of s at k a m b v e t some few u top allowed f = simp (t, some, few, u, top, allowed, f)
+  statement-of : (s : List ℕ) (at k a m b : ℕ) (v : List ℕ) (e : ℕ) → byte s at ≡ value k a → not (eqb k 0) ≡ true → ltb k 15 ≡ true → twoBytes s a ≡ value m b → ltb m 2048 ≡ true → statementAllows k (m % 256) ≡ true → fields m (statementLimits h) unmarked 9 s b ≡ value v e → leb (getD v 9 0) (getD v 10 0) ≡ true → statement h s at ≡ value (statementOf (record { kind = k; map = m }) v) e
+  unfolding statement statementStart statementRest statementEnd
+  statement-of s at k a m b v e t some few u top allowed f period = simp (t, some, few, u, top, allowed, f, period)
 
   -- a statement is read back
   pub statement-laid : (s : List ℕ) (at : ℕ) (x : Statement) → StatementWithin h x → Has s at (statementBytes x) → statement h s at ≡ value x (at + length (statementBytes x))
@@ -191,7 +215,8 @@ module _ (h : Counts) (lim : Limits h) where
       let z : at + 1 + 1 + 1 ≡ at + 1 + 2 = omega arith in
       let f = fields-laid (statementLimits h) 9 s unmarked ps 16 0 unmarked (at + 1 + 2) (whole-short x) (lit≤ tt) (λ j c d. refl) (whole-fits x w) (rw z at (has .2 .2 .2)) in
       let q : at + suc (suc (suc (length (bytesOf ps)))) ≡ at + 1 + 2 + length (bytesOf ps) = omega arith in
-      statement-of s at k (at + 1) m (at + 1 + 2) (fill 0 ps unmarked) (at + 1 + 2 + length (bytesOf ps)) a (known (x .body) .some) (known (x .body) .few) b (lt-ltb _ _ (whole-top x)) (rw (whole-low x) (known (x .body) .allowed)) f
+      let period : leb (getD (fill 0 ps unmarked) 9 0) (getD (fill 0 ps unmarked) 10 0) ≡ true = ap (λ (y : Statement). leb (y .first) (y .last)) (statement-filled x) ∙ le-leb _ _ (w .period) in
+      statement-of s at k (at + 1) m (at + 1 + 2) (fill 0 ps unmarked) (at + 1 + 2 + length (bytesOf ps)) a (known (x .body) .some) (known (x .body) .few) b (lt-ltb _ _ (whole-top x)) (rw (whole-low x) (known (x .body) .allowed)) f period
       ∙ ap₂ (λ (y : Statement) (z : ℕ). value y z) (statement-filled x) (sym q)
 
 -- and what was read is laid out so
@@ -233,31 +258,41 @@ module _ (v : List ℕ) where
 values-room : 0 + 16 ≤ length unmarked
 values-room = omega arith
 
--- the places of what was read: those of what it says, its source, and gaps
-module _ (m : ℕ) (l : m < 512) (v : List ℕ) where
-  ninth : m / 2 / 2 / 2 / 2 / 2 / 2 / 2 / 2 / 2 ≡ 0
-  ninth = omega arith
+-- the places of what was read: those of what it says, source and days, and gaps
+module _ (m : ℕ) (l : m < 2048) (v : List ℕ) where
+  -- nothing stands above the days
+  eleventh : m / 2 / 2 / 2 / 2 / 2 / 2 / 2 / 2 / 2 / 2 / 2 ≡ 0
+  eleventh = omega arith
 
   small : Small 16 m
-  small = rw ninth (small-zero 7)
+  small = rw eleventh (small-zero 5)
 
-  nth-place : (ps qs : List Place) (p q : Place) (rs ts : List Place) → length ps ≡ length qs → ps ++ (p ∷ rs) ≡ qs ++ (q ∷ ts) → p ≡ q
-  nth-place [] [] p q rs ts n e = cc
-  nth-place [] (b ∷ qs) p q rs ts n e = absurd (omega arith)
-  nth-place (a ∷ ps) [] p q rs ts n e = absurd (omega arith)
-  nth-place (a ∷ ps) (b ∷ qs) p q rs ts n e = let f : ps ++ (p ∷ rs) ≡ qs ++ (q ∷ ts) = cc in nth-place ps qs p q rs ts (omega arith) f
+  tails : (ps qs rs ts : List Place) → length ps ≡ length qs → ps ++ rs ≡ qs ++ ts → rs ≡ ts
+  tails [] [] rs ts n e = e
+  tails [] (b ∷ qs) rs ts n e = absurd (omega arith)
+  tails (a ∷ ps) [] rs ts n e = absurd (omega arith)
+  tails (a ∷ ps) (b ∷ qs) rs ts n e = let f : ps ++ rs ≡ qs ++ ts = cc in tails ps qs rs ts (omega arith) f
 
-  source-place : placesOf 16 0 m v ≡ marksFrom unmarked 16 0 v → pick (eqb (m / 2 / 2 / 2 / 2 / 2 / 2 / 2 / 2 % 2) 0) gap (put (getD v 8 0)) ≡ mark 0 (getD v 8 0)
-  source-place e = nth-place (placesOf 8 0 m v) (marksFrom unmarked 8 0 v) _ _ (placesOf 7 9 (m / 2 / 2 / 2 / 2 / 2 / 2 / 2 / 2 / 2) v) (marksFrom unmarked 7 9 v) refl e
+  three : (p₀ p₁ p₂ c₀ c₁ c₂ : Place) (ps cs gs : List Place) → (p₀ ∷ p₁ ∷ p₂ ∷ ps) ≡ (c₀ ∷ c₁ ∷ c₂ ∷ cs) → ps ≡ gs → (p₀ ∷ p₁ ∷ p₂ ∷ ps) ≡ (c₀ ∷ c₁ ∷ c₂ ∷ gs)
+  three p₀ p₁ p₂ c₀ c₁ c₂ ps cs gs q r =
+      let a : p₀ ≡ c₀ = cc in
+      let b : p₁ ≡ c₁ = cc in
+      let c : p₂ ≡ c₂ = cc in
+      cc
 
-  places-shown : (kind : ℕ) → (kind ≡ 0 → ⊥) → kind < 15 → statementAllows kind (m % 256) ≡ true → placesOf 16 0 m v ≡ marksFrom unmarked 16 0 v → (formOf (axiomOf (record { kind = kind; map = m }) v) .kind ≡ kind) × (placesOf 16 0 m v ≡ wholeOf (statementOf (record { kind = kind; map = m }) v) .places ++ replicate 7 gap)
+  marks-shown : (x : Statement) → x .source ≡ getD v 8 0 → x .first ≡ getD v 9 0 → x .last ≡ getD v 10 0 → placesOf 16 0 m v ≡ marksFrom unmarked 16 0 v → placesOf 8 8 (m / 2 / 2 / 2 / 2 / 2 / 2 / 2 / 2) v ≡ marks x ++ replicate 5 gap
+  marks-shown x n f o e =
+      let t = tails (placesOf 8 0 m v) (marksFrom unmarked 8 0 v) _ _ refl e in
+      let g : placesOf 5 11 (m / 2 / 2 / 2 / 2 / 2 / 2 / 2 / 2 / 2 / 2 / 2) v ≡ replicate 5 gap = ap (λ (y : ℕ). placesOf 5 11 y v) eleventh ∙ gaps 5 11 v in
+      rw (n, f, o) (three _ _ _ _ _ _ _ _ _ t g)
+
+  places-shown : (kind : ℕ) → (kind ≡ 0 → ⊥) → kind < 15 → statementAllows kind (m % 256) ≡ true → placesOf 16 0 m v ≡ marksFrom unmarked 16 0 v → (formOf (axiomOf (record { kind = kind; map = m }) v) .kind ≡ kind) × (placesOf 16 0 m v ≡ wholeOf (statementOf (record { kind = kind; map = m }) v) .places ++ replicate 5 gap)
   places-shown kind some few allowed e =
       let x = statementOf (record { kind = kind; map = m }) v in
       let shows = subst (λ (a : Axiom). (formOf a .kind ≡ kind) × (placesOf 8 0 (m % 256) v ≡ own a)) (axiom-low kind m v) (kinds-show v kind (m % 256) some few allowed) in
-      let first : placesOf 8 0 m v ≡ own (x .body) = sym (bits-places 8 0 (m % 256) m v (λ j n. low-bits m j n)) ∙ shows .1 in
-      let last : placesOf 7 9 (m / 2 / 2 / 2 / 2 / 2 / 2 / 2 / 2 / 2) v ≡ replicate 7 gap = ap (λ (y : ℕ). placesOf 7 9 y v) ninth ∙ gaps 7 9 v in
-      let all : placesOf 8 0 m v ++ (pick (eqb (m / 2 / 2 / 2 / 2 / 2 / 2 / 2 / 2 % 2) 0) gap (put (getD v 8 0)) ∷ placesOf 7 9 (m / 2 / 2 / 2 / 2 / 2 / 2 / 2 / 2 / 2) v) ≡ own (x .body) ++ (mark 0 (getD v 8 0) ∷ replicate 7 gap) = ap₂ (λ (a : List Place) (b : List Place). a ++ b) first (ap₂ (λ (p : Place) (l : List Place). p ∷ l) (source-place e) last) in
-      (shows .0, all ∙ sym (append-assoc (own (x .body)) (marks x) (replicate 7 gap)))
+      let front : placesOf 8 0 m v ≡ own (x .body) = sym (bits-places 8 0 (m % 256) m v (λ j n. low-bits m j n)) ∙ shows .1 in
+      let all : placesOf 8 0 m v ++ placesOf 8 8 (m / 2 / 2 / 2 / 2 / 2 / 2 / 2 / 2) v ≡ own (x .body) ++ (marks x ++ replicate 5 gap) = ap₂ (λ (a : List Place) (b : List Place). a ++ b) front (marks-shown x refl refl refl e) in
+      (shows .0, all ∙ sym (append-assoc (own (x .body)) (marks x) (replicate 5 gap)))
 
 shown : (y : Start) (k m : ℕ) (v : List ℕ) {l : List ℕ} → k ≡ wholeOf (statementOf y v) .kind → m ≡ mapOf (wholeOf (statementOf y v) .places) → l ≡ bytesOf (wholeOf (statementOf y v) .places) → (k ∷ m % 256 ∷ m / 256 ∷ l) ≡ statementBytes (statementOf y v)
 unfolding statementBytes
@@ -273,7 +308,7 @@ module _ (s : List ℕ) (h : Counts) (at : ℕ) (x : Statement) (e : ℕ) where
       let z = held (not (eqb (a .0) 0)) 7 s (a .1) _ (p .start) (p .then) (a .3) in
       let b = held (ltb (a .0) 15) 7 s (a .1) _ (p .start) (p .then) (z .1) in
       let c = came (twoBytes s (a .1)) _ (p .start) (p .then) (b .1) in
-      let n = held (ltb (c .0) 512) 8 s (c .1) _ (p .start) (p .then) (c .3) in
+      let n = held (ltb (c .0) 2048) 8 s (c .1) _ (p .start) (p .then) (c .3) in
       let d = held (statementAllows (a .0) (c .0 % 256)) 8 s (c .1) _ (p .start) (p .then) (n .1) in
       let y : Start = record { kind = a .0; map = c .0 } in
       let o = same-value y (p .start) (c .1) (p .then) (d .1) in
@@ -285,13 +320,13 @@ module _ (s : List ℕ) (h : Counts) (at : ℕ) (x : Statement) (e : ℕ) where
       let shown = places-shown (p .start .map) (st .map-top) (p .values) (p .start .kind) (st .kind-some) (st .kind-known) (st .map-known) placed in
       stated (p .start) (a .0) (a .1) (c .0) (c .1) (p .then) (p .values) (st .map-top) (shown .0) (shown .1) (o .0) (o .1) (p .made) l₁ l₂ l₃
     where
-      stated : (y : Start) (k a m b c : ℕ) (v : List ℕ) → y .map < 512 → formOf (axiomOf y v) .kind ≡ y .kind → placesOf 16 0 (y .map) v ≡ wholeOf (statementOf y v) .places ++ replicate 7 gap → record { kind = k; map = m } ≡ y → b ≡ c → statementOf y v ≡ x → Laid s at a (k ∷ []) → Laid s a b (twoOf m) → Laid s c e (bytesOf (placesOf 16 0 (y .map) v)) → Laid s at e (statementBytes x)
+      stated : (y : Start) (k a m b c : ℕ) (v : List ℕ) → y .map < 2048 → formOf (axiomOf y v) .kind ≡ y .kind → placesOf 16 0 (y .map) v ≡ wholeOf (statementOf y v) .places ++ replicate 5 gap → record { kind = k; map = m } ≡ y → b ≡ c → statementOf y v ≡ x → Laid s at a (k ∷ []) → Laid s a b (twoOf m) → Laid s c e (bytesOf (placesOf 16 0 (y .map) v)) → Laid s at e (statementBytes x)
       stated y k a m b c v top kind places o q g l₁ l₂ l₃ =
           let k′ : k ≡ y .kind = ap (λ (z : Start). z .kind) o in
           let m′ : m ≡ y .map = ap (λ (z : Start). z .map) o in
           let ps = wholeOf (statementOf y v) .places in
-          let n : mapOf ps ≡ y .map = sym (gaps-map ps 7) ∙ (ap mapOf (sym places) ∙ places-map 16 0 (y .map) v (small (y .map) top v)) in
-          let bs : bytesOf (placesOf 16 0 (y .map) v) ≡ bytesOf ps = ap bytesOf places ∙ gaps-bytes ps 7 in
+          let n : mapOf ps ≡ y .map = sym (gaps-map ps 5) ∙ (ap mapOf (sym places) ∙ places-map 16 0 (y .map) v (small (y .map) top v)) in
+          let bs : bytesOf (placesOf 16 0 (y .map) v) ≡ bytesOf ps = ap bytesOf places ∙ gaps-bytes ps 5 in
           let head : Laid s at b (k ∷ twoOf m) = laid-then (k ∷ []) (twoOf m) l₁ l₂ in
           let all : Laid s at e (k ∷ twoOf m ++ bytesOf (placesOf 16 0 (y .map) v)) = laid-then (k ∷ twoOf m) (bytesOf (placesOf 16 0 (y .map) v)) head (rw q l₃) in
           let shows : (k ∷ m % 256 ∷ m / 256 ∷ bytesOf (placesOf 16 0 (y .map) v)) ≡ statementBytes (statementOf y v) = shown y k m v (k′ ∙ sym kind) (m′ ∙ sym n) bs in

@@ -1,4 +1,4 @@
--- A statement that is not refused keeps to the counts, its source too, and takes at least three bytes.
+-- A statement that is not refused keeps to the counts, source and days too, and takes at least three bytes.
 use Prim.Native.Nat.{ℕ, zero, suc, _/_, _%_, _≤_, _<_}
 use native.Mathlib.Omega.{arith}
 use native.Mathlib.Decide.{decLt}
@@ -7,15 +7,15 @@ use mathlib.Core.Bool.{Bool, true, false, not, _||_}
 use mathlib.Core.List.{List}
 use mathlib.Core.Logic.{_⊎_, ⊎-elim}
 use lib.ListN.{getD}
-use lib.Dec.{ltb, eqb, lit<}
-use borrow.Author.Tests.{ltb-true, eqb-true, eqb-false, not-true}
+use lib.Dec.{ltb, leb, eqb, lit<}
+use borrow.Author.Tests.{leb-true, ltb-true, eqb-true, eqb-false, not-true}
 use Rattle.book.specs.declared.header.Counts.{Counts}
 use Rattle.book.specs.declared.table.Start.{Start}
 use Rattle.book.specs.declared.statement.Statement.{Statement}
 use Rattle.book.specs.Read.{value}
 use Rattle.book.specs.Table.{statementAllows}
 use Rattle.book.specs.Field.{byte, twoBytes, fields}
-use Rattle.book.specs.Statement.{statementStart, statementLimits, unmarked, pathOf, assertion, axiomKinds, axiomOf, statementOf, statementRest, statement}
+use Rattle.book.specs.Statement.{statementStart, statementLimits, unmarked, pathOf, assertion, axiomKinds, axiomOf, statementOf, statementEnd, statementRest, statement}
 use Rattle.book.specs.Within.{Within, StatementWithin}
 use Rattle.book.proofs.Parsing.{came, held, same-value, Goes}
 use Rattle.book.proofs.role.Laws.{role-below}
@@ -26,7 +26,7 @@ module _ (s : List ℕ) (at : ℕ) (x : Start) (next : ℕ) (read : statementSta
   pub record StartKnown : Type 0 where
     pub kind-some : x .kind ≡ 0 → ⊥
     pub kind-known : x .kind < 15
-    pub map-top : x .map < 512
+    pub map-top : x .map < 2048
     pub map-known : statementAllows (x .kind) (x .map % 256) ≡ true
     pub goes : Goes 3 s at next
 
@@ -37,7 +37,7 @@ module _ (s : List ℕ) (at : ℕ) (x : Start) (next : ℕ) (read : statementSta
       let z = held (not (eqb (a .0) 0)) 7 s (a .1) _ x next (a .3) in
       let b = held (ltb (a .0) 15) 7 s (a .1) _ x next (z .1) in
       let c = came (twoBytes s (a .1)) _ x next (b .1) in
-      let m = held (ltb (c .0) 512) 8 s (c .1) _ x next (c .3) in
+      let m = held (ltb (c .0) 2048) 8 s (c .1) _ x next (c .3) in
       let d = held (statementAllows (a .0) (c .0 % 256)) 8 s (c .1) _ x next (m .1) in
       let y : Start = record { kind = a .0; map = c .0 } in
       let e = same-value y x (c .1) next (d .1) in
@@ -48,7 +48,7 @@ module _ (s : List ℕ) (at : ℕ) (x : Start) (next : ℕ) (read : statementSta
       record {
         kind-some = subst (λ (w : Start). w .kind ≡ 0 → ⊥) (e .0) some;
         kind-known = subst (λ (w : Start). w .kind < 15) (e .0) (ltb-true (a .0) 15 (b .0));
-        map-top = subst (λ (w : Start). w .map < 512) (e .0) (ltb-true (c .0) 512 (m .0));
+        map-top = subst (λ (w : Start). w .map < 2048) (e .0) (ltb-true (c .0) 2048 (m .0));
         map-known = subst (λ (w : Start). statementAllows (w .kind) (w .map % 256) ≡ true) (e .0) known;
         goes = (omega (arith, g .0, g′ .0, e .1), omega (arith, g′ .1, e .1));
       }
@@ -145,20 +145,23 @@ module _ (s : List ℕ) (h : Counts) (at : ℕ) (x : Statement) (next : ℕ) (re
     pub started : statementStart s at ≡ value start then
     pub values : List ℕ
     pub run : fields (start .map) (statementLimits h) unmarked 9 s then ≡ value values next
+    pub period : getD values 9 0 ≤ getD values 10 0
     pub made : statementOf start values ≡ x
 
   pub through : Through
-  unfolding statement statementRest
+  unfolding statement statementRest statementEnd
   through =
       let a = came (statementStart s at) _ x next read in
       let b = came (fields (a .0 .map) (statementLimits h) unmarked 9 s (a .1)) _ x next (a .3) in
-      let e = same-value (statementOf (a .0) (b .0)) x (b .1) next (b .3) in
+      let o = held (leb (getD (b .0) 9 0) (getD (b .0) 10 0)) 16 s (b .1) _ x next (b .3) in
+      let e = same-value (statementOf (a .0) (b .0)) x (b .1) next (o .1) in
       record {
         start = a .0;
         then = a .1;
         started = a .2;
         values = b .0;
         run = b .2 ∙ ap (value (b .0)) (e .1);
+        period = leb-true (getD (b .0) 9 0) (getD (b .0) 10 0) (o .0);
         made = e .0;
       }
 
@@ -177,6 +180,8 @@ module _ (s : List ℕ) (h : Counts) (at : ℕ) (x : Statement) (next : ℕ) (re
             (kinds-keep h (t .values) (t .start .kind) (t .start .map % 256) (k .kind-some) (k .kind-known) (k .map-known)
             (λ j l set. ⊎-elim (λ low. low) (λ gone. absurd (low-bit (t .start .map) j set (gone .0))) (ranged j l)));
         source-top = ⊎-elim (λ low. low) (λ gone. omega (arith, gone .1)) (ranged 8 (lit< tt));
+        period = t .period;
+        last-top = ⊎-elim (λ low. low) (λ gone. omega (arith, gone .1)) (ranged 10 (lit< tt));
       })
 
   pub statement-goes : Goes 3 s at next

@@ -5,7 +5,7 @@ use mathlib.Core.Path.{_≡_, refl, sym}
 use mathlib.Core.Bool.{Bool, true, false}
 use mathlib.Core.List.{List}
 use lib.ListN.{getD, List·getD-eq-default}
-use borrow.Author.Tests.{lt-ltb, le-ltb, eq-eqb, ne-eqb}
+use borrow.Author.Tests.{lt-ltb, le-ltb, lt-leb, le-leb, eq-eqb, ne-eqb}
 use Rattle.book.specs.declared.role.Role.{Role}
 use Rattle.book.specs.declared.field.ReadField.{ReadField}
 use Rattle.book.specs.declared.field.ReadField.the-variants.{Next, Refused}
@@ -22,7 +22,7 @@ use Rattle.book.specs.Read.{value, refusal}
 use Rattle.book.specs.Field.{byte, twoBytes, fields, asField, asFields}
 use Rattle.book.specs.Table.{statementAllows}
 use Rattle.book.specs.Concept.{asStart}
-use Rattle.book.specs.Statement.{statementStart, statementLimits, unmarked, pathOf, assertion, axiomKinds, axiomOf, statementOf, statementRest, statement, asStatement}
+use Rattle.book.specs.Statement.{statementStart, statementLimits, unmarked, pathOf, assertion, axiomKinds, axiomOf, statementOf, statementEnd, statementRest, statement, asStatement}
 
 abbrev start : ℕ → ℕ → Start
 start kind map = record { kind = kind; map = map }
@@ -46,16 +46,16 @@ module _ (s : List ℕ) (at : ℕ) (r : ReadField) where
       unfolding statementStart
       start-mapless n e f z h g q = simp (← e, f, ne-eqb _ _ z, lt-ltb _ _ h, ← g, q)
 
-      pub start-high : (map next : ℕ) → asField r ≡ byte s at → r ≡ Next kind then → (kind ≡ 0 → ⊥) → kind < 15 → asField m ≡ twoBytes s then → m ≡ Next map next → 512 ≤ map → refusal 8 ≡ statementStart s at
+      pub start-high : (map next : ℕ) → asField r ≡ byte s at → r ≡ Next kind then → (kind ≡ 0 → ⊥) → kind < 15 → asField m ≡ twoBytes s then → m ≡ Next map next → 2048 ≤ map → refusal 8 ≡ statementStart s at
       unfolding statementStart
       start-high map next e f z h g q a = simp (← e, f, ne-eqb _ _ z, lt-ltb _ _ h, ← g, q, le-ltb _ _ a)
 
       module _ (map next : ℕ) (allowed : Bool) where
-        pub start-of : asField r ≡ byte s at → r ≡ Next kind then → (kind ≡ 0 → ⊥) → kind < 15 → asField m ≡ twoBytes s then → m ≡ Next map next → map < 512 → allowed ≡ statementAllows kind (map % 256) → allowed ≡ true → value (start kind map) next ≡ statementStart s at
+        pub start-of : asField r ≡ byte s at → r ≡ Next kind then → (kind ≡ 0 → ⊥) → kind < 15 → asField m ≡ twoBytes s then → m ≡ Next map next → map < 2048 → allowed ≡ statementAllows kind (map % 256) → allowed ≡ true → value (start kind map) next ≡ statementStart s at
         unfolding statementStart
         start-of e f z h g q l a b = simp (← e, f, ne-eqb _ _ z, lt-ltb _ _ h, ← g, q, lt-ltb _ _ l, ← a, b)
 
-        pub start-disallowed : asField r ≡ byte s at → r ≡ Next kind then → (kind ≡ 0 → ⊥) → kind < 15 → asField m ≡ twoBytes s then → m ≡ Next map next → map < 512 → allowed ≡ statementAllows kind (map % 256) → allowed ≡ false → refusal 8 ≡ statementStart s at
+        pub start-disallowed : asField r ≡ byte s at → r ≡ Next kind then → (kind ≡ 0 → ⊥) → kind < 15 → asField m ≡ twoBytes s then → m ≡ Next map next → map < 2048 → allowed ≡ statementAllows kind (map % 256) → allowed ≡ false → refusal 8 ≡ statementStart s at
         unfolding statementStart
         start-disallowed e f z h g q l a b = simp (← e, f, ne-eqb _ _ z, lt-ltb _ _ h, ← g, q, lt-ltb _ _ l, ← a, b)
 
@@ -85,14 +85,23 @@ assertion-of x v f = go (x .kind) f
     go zero f = refl
     go (suc k) f = sym (List·getD-eq-default (axiomKinds (x .map % 256) v) (assertion v) (f (omega arith)))
 
+module _ (x : Start) (v : List ℕ) (next : ℕ) where
+  pub end-early : getD v 10 0 < getD v 9 0 → (s : List ℕ) → refusal 16 ≡ statementEnd x v s next
+  unfolding statementEnd
+  end-early l s = simp (lt-leb _ _ l)
+
+  pub end-of : (y : Statement) → getD v 9 0 ≤ getD v 10 0 → y ≡ statementOf x v → (s : List ℕ) → value y next ≡ statementEnd x v s next
+  unfolding statementEnd
+  end-of y l e s = simp (le-leb _ _ l, e)
+
 module _ (h : Counts) (x : Start) (s : List ℕ) (at : ℕ) (fs : Fields) where
   pub rest-unread : (n : ℕ) → asFields fs ≡ fields (x .map) (statementLimits h) unmarked 9 s at → fs .end ≡ Stopped n → refusal n ≡ statementRest h x s at
   unfolding statementRest
   rest-unread n e f = simp (← e, f)
 
-  pub rest-read : (next : ℕ) (a : Statement) → asFields fs ≡ fields (x .map) (statementLimits h) unmarked 9 s at → fs .end ≡ On next → a ≡ statementOf x (fs .values) → value a next ≡ statementRest h x s at
+  pub rest-read : (next : ℕ) (r : ReadStatement) → asFields fs ≡ fields (x .map) (statementLimits h) unmarked 9 s at → fs .end ≡ On next → ((u : List ℕ) → asStatement r ≡ statementEnd x (fs .values) u next) → asStatement r ≡ statementRest h x s at
   unfolding statementRest
-  rest-read next a e f g = simp (← e, f, g)
+  rest-read next r e f g = simp (← e, f, g s)
 
 module _ (h : Counts) (s : List ℕ) (at : ℕ) (t : ReadStart) where
   pub statement-unstarted : (n : ℕ) → asStart t ≡ statementStart s at → t ≡ Unstarted n → refusal n ≡ statement h s at

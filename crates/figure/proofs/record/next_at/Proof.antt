@@ -2,7 +2,7 @@ use lib.ListN.{getD}
 use Prim.Native.Nat.{ℕ, _%_}
 use native.Mathlib.Omega.{arith}
 use mathlib.Core.Path.{ap, _∙_}
-use Rattle.figure.specs.Record.{numbersOf, nextAt}
+use Rattle.figure.specs.Record.{numbersOf, marksOf, nextAt}
 use borrow.Author.Needs.{needs}
 use Rattle.figure.proofs.record.next_at.Statement.{statement}
 use Rattle.figure.proofs.record.next_at.Tie as tie
@@ -39,17 +39,20 @@ add-result-2 : tie.Need-add-result-2
 unfolding nextAt
 add-result-2 c = let p = c .before .before .before .before .pre in let e = c .before .before .number-at .ensures in let f = c .numbers-of .ensures ∙ ap (λ (n : ℕ). numbersOf (getD (c .before .before .before .before .args .book .now) (c .before .before .before .before .args .at) 0) (n % 256)) e in omega (arith, p, e, f)
 
+marks-of-requires : tie.Need-marks-of-requires
+marks-of-requires c κs = search needs
+
 mul-result-2 : tie.Need-mul-result-2
 unfolding nextAt
-mul-result-2 c = let p = c .before .before .before .before .pre in let e = c .before .before .number-at .ensures in let f = c .numbers-of .ensures ∙ ap (λ (n : ℕ). numbersOf (getD (c .before .before .before .before .args .book .now) (c .before .before .before .before .args .at) 0) (n % 256)) e in omega (arith, p, e, f)
+mul-result-2 c = let p = c .before .before .before .before .before .pre in let a = c .before .before .before .before .before .args in let e = c .before .before .before .number-at .ensures in let f = c .before .numbers-of .ensures ∙ ap (λ (n : ℕ). numbersOf (getD (a .book .now) (a .at) 0) (n % 256)) e in let g = c .marks-of .ensures ∙ ap (λ (n : ℕ). marksOf n) e in omega (arith, p, e, f, g)
 
 add-result-3 : tie.Need-add-result-3
 unfolding nextAt
-add-result-3 c = let p = c .before .before .before .before .pre in let e = c .before .before .number-at .ensures in let f = c .numbers-of .ensures ∙ ap (λ (n : ℕ). numbersOf (getD (c .before .before .before .before .args .book .now) (c .before .before .before .before .args .at) 0) (n % 256)) e in omega (arith, p, e, f)
+add-result-3 c = let p = c .before .before .before .before .before .pre in let a = c .before .before .before .before .before .args in let e = c .before .before .before .number-at .ensures in let f = c .before .numbers-of .ensures ∙ ap (λ (n : ℕ). numbersOf (getD (a .book .now) (a .at) 0) (n % 256)) e in let g = c .marks-of .ensures ∙ ap (λ (n : ℕ). marksOf n) e in omega (arith, p, e, f, g)
 
 returns : tie.Need-returns
 unfolding nextAt
-returns c = let p = c .before .before .before .before .pre in let e = c .before .before .number-at .ensures in let f = c .numbers-of .ensures ∙ ap (λ (n : ℕ). numbersOf (getD (c .before .before .before .before .args .book .now) (c .before .before .before .before .args .at) 0) (n % 256)) e in omega (arith, p, e, f)
+returns c = let p = c .before .before .before .before .before .pre in let a = c .before .before .before .before .before .args in let e = c .before .before .before .number-at .ensures in let f = c .before .numbers-of .ensures ∙ ap (λ (n : ℕ). numbersOf (getD (a .book .now) (a .at) 0) (n % 256)) e in let g = c .marks-of .ensures ∙ ap (λ (n : ℕ). marksOf n) e in omega (arith, p, e, f, g)
 
 pub next-at-spec : {M : Type 1} → statement M
 next-at-spec =
@@ -62,6 +65,7 @@ next-at-spec =
     numbers-of-requires
     mul-result
     add-result-2
+    marks-of-requires
     mul-result-2
     add-result-3
     returns)

@@ -1,20 +1,20 @@
 -- `heeds` meets its contract.
-use native.Mathlib.Omega.{arith}
-use Rattle.heed.proofs.Ways.{heeds-named, heeds-any}
+use borrow.Author.Needs.{needs}
+use Rattle.heed.proofs.Ways.{heeds-current, heeds-not}
 use Rattle.heed.proofs.heed.heeds.Statement.{statement}
 use Rattle.heed.proofs.heed.heeds.Tie as tie
 
-may-read-requires : tie.Need-may-read-requires
-may-read-requires c κs =
-    let p = c .before .before .pre in
-    let r = p .0 (c .if1 .taken) in
-    (r .0, omega (arith, r .1, p .1))
+current-requires : tie.Need-current-requires
+current-requires c κs = search needs
+
+read-requires : tie.Need-read-requires
+read-requires c κs = search needs
 
 returns : tie.Need-returns
-returns c = search heeds-named
+returns c = search heeds-current
 
 returns-2 : tie.Need-returns-2
-returns-2 c = search heeds-any
+returns-2 c = search heeds-not
 
 pub heeds-spec : {M : Type 1} → statement M
-heeds-spec = tie.close (tie.spec may-read-requires returns returns-2)
+heeds-spec = tie.close (tie.spec current-requires read-requires returns returns-2)
