@@ -1,5 +1,5 @@
-/* The conclusions of a book, told facts and rules run to the smallest sets; the book itself, cleaned; what a run of it
- * will need; and rows of derivations, checked.
+/* The conclusions of a book, told facts and rules run to the smallest sets; whether an individual is shown to be of a
+ * concept; the book itself, cleaned; what a run of it will need; and rows of derivations, checked.
  *
  * Link with libzamoluvel.a (`rt staticlib zamoluvel`). The functions keep nothing between calls, allocate
  * nothing and may be called from several threads at once. A thread that calls them needs ZAMOLUVEL_STACK bytes of
@@ -24,7 +24,7 @@ extern "C" {
 #define ZAMOLUVEL_FINISHED 0u
 #define ZAMOLUVEL_CLASH 1u
 #define ZAMOLUVEL_SPENT 2u
-#define ZAMOLUVEL_REFUSED 100u /* plus the number of the refusal, 1 to 11 or 14 to 16 */
+#define ZAMOLUVEL_REFUSED 100u /* plus the number of the refusal, 1 to 11 or 14 to 17 */
 
 /* Which list zamoluvel_named_part is asked for. */
 #define ZAMOLUVEL_EDGES 0u
@@ -100,9 +100,57 @@ uint32_t zamoluvel_saturate_for_on(const uint8_t *book, size_t book_len, uint64_
                                    size_t pairs_len, uint32_t reader, const uint32_t *table, size_t table_len,
                                    uint16_t day, uint32_t counts[3]);
 
+/* What zamoluvel_is and zamoluvel_is_for answer, beside the ends of a run that does not finish. */
+#define ZAMOLUVEL_SHOWN 3u
+#define ZAMOLUVEL_NOT_SHOWN 4u
+
+/* Is this individual of that concept? Runs the book, as zamoluvel_saturate does, and judges the concept by what the run
+ * concludes. Top is shown; Atomic where the type is concluded; Nominal where both are in one class of told-same individuals,
+ * each being with itself; SelfRestriction where the role leads the individual to itself; And where every part is shown, Or
+ * where some part is; Some where the role leads to an individual for which the inner concept is shown. An inverse role leads
+ * the other way. Every other kind is not shown, although it may hold.
+ *
+ *   book .. pairs_len    as for zamoluvel_saturate
+ *   individual, concept  which ones, by number, any numbers at all; the concept by its place in the book
+ *   counts, counts_len   the first three entries receive the type, edge and pair counts of the run, as far as there are
+ *                        so many; others keep their values
+ *
+ * The book, the lists and the counts must not overlap.
+ *
+ * Returns
+ *   ZAMOLUVEL_SHOWN        the individual is of the concept in every world that fits the book
+ *   ZAMOLUVEL_NOT_SHOWN    it is not shown; where the book is plain and the concept is built of the kinds above alone, there is a
+ *                          world that fits and in which the individual is not of the concept
+ *                          After these two the lists and counts are those of the finished run.
+ *   ZAMOLUVEL_CLASH, ZAMOLUVEL_SPENT, ZAMOLUVEL_REFUSED + n
+ *                          as for zamoluvel_saturate, lists and counts included; further, with the lists as they were,
+ *                          behind the book's own faults and before the run: 17 the book has no such individual or concept
+ */
+uint32_t zamoluvel_is(const uint8_t *book, size_t book_len, uint64_t budget, uint32_t *types, size_t types_len,
+                      uint32_t *edges, size_t edges_len, uint32_t *pairs, size_t pairs_len, uint32_t individual,
+                      uint32_t concept, uint32_t *counts, size_t counts_len);
+
+/* The same for a reader, of the book without the statements that he may not read: reader and table as for
+ * zamoluvel_saturate_for, with its refusals 14 and 15 before those of the book. */
+uint32_t zamoluvel_is_for(const uint8_t *book, size_t book_len, uint64_t budget, uint32_t *types, size_t types_len,
+                          uint32_t *edges, size_t edges_len, uint32_t *pairs, size_t pairs_len, uint32_t reader,
+                          const uint32_t *table, size_t table_len, uint32_t individual, uint32_t concept,
+                          uint32_t *counts, size_t counts_len);
+
+/* The same as of a day, and for a reader as of a day: of the book with the statements in force that day alone, or with the
+ * readable ones among them. day as for zamoluvel_saturate_on. */
+uint32_t zamoluvel_is_on(const uint8_t *book, size_t book_len, uint64_t budget, uint32_t *types, size_t types_len,
+                         uint32_t *edges, size_t edges_len, uint32_t *pairs, size_t pairs_len, uint16_t day,
+                         uint32_t individual, uint32_t concept, uint32_t *counts, size_t counts_len);
+uint32_t zamoluvel_is_for_on(const uint8_t *book, size_t book_len, uint64_t budget, uint32_t *types, size_t types_len,
+                             uint32_t *edges, size_t edges_len, uint32_t *pairs, size_t pairs_len, uint32_t reader,
+                             const uint32_t *table, size_t table_len, uint16_t day, uint32_t individual,
+                             uint32_t concept, uint32_t *counts, size_t counts_len);
+
 /* The part of a list that the facts of a run fill: so many entries of it, from the first on.
  *
- *   end, edge_count, pair_count  what a run returned and wrote
+ *   end, edge_count, pair_count  what a run returned and wrote; after ZAMOLUVEL_SHOWN and ZAMOLUVEL_NOT_SHOWN
+ *                                ask with ZAMOLUVEL_FINISHED
  *   named                        ZAMOLUVEL_EDGES or ZAMOLUVEL_PAIRS
  *
  * Returns 3 * edge_count or 2 * pair_count after ZAMOLUVEL_FINISHED, and 0 at any other end or for another list.

@@ -7,7 +7,7 @@ import sys
 
 import book_format as f
 
-from . import conclusions, days, library, names, readers, words
+from . import conclusions, days, library, membership, names, readers, words
 from .packer import MOST_BYTES, Packer
 from .source import AT_FAULT, DONE, NOT_RUN, Source, Stop, decoded, read_bytes
 from .text import Writer, counted, summary
@@ -16,6 +16,7 @@ from .tokens import Fault
 ROOT = pathlib.Path(__file__).resolve().parent.parent.parent
 PROGRAM = ROOT / 'target' / 'bin' / 'saturate'
 PROGRAM_BUDGET = 4000  # of that program
+NOT_SHOWN = 6  # exit status
 SUFFIX = r'\.(ofn|owl|ttl|nt|rdf|xml|owx|omn)$'  # of a register's file; its book has .book in place of it
 
 ABOUT = 'Books in a form that people read and write: OWL 2 functional-style syntax.'
@@ -24,14 +25,16 @@ words tell, is converted through the OWL API, where Java and that are at hand (o
 default-jdk-headless libowlapi-java). Imports are not fetched; they are counted as left out.
 '''
 STATUSES = '''Exit status:
-  0  done; for conclude: finished
+  0  done; for conclude: finished; for is: shown
   1  the file is at fault: syntax, a limit of the book, with --strict an axiom that a book cannot hold, a file of readers;
+     for is: a name that the register has not, an expression that a book cannot hold;
      for show and clean: a refused book, for show also names that do not fit it
   2  wrong usage, a file that cannot be read or written, a program that cannot be run or prints something else,
      a library, Java or an OWL API that is not there
-  3  conclude: clash, no world fits the register
-  4  conclude: spent, more conclusions than the budget
+  3  conclude, is: clash, no world fits the register
+  4  conclude, is: spent, more conclusions than the budget
   5  conclude: refused, or a book that is too long for the program
+  6  is: not shown
 '''
 PACKED = SYNTAXES + '''
 Into the book go:
@@ -76,6 +79,16 @@ error says of left out axioms and faults is about the whole file. The file has a
 With --day the conclusions are those of the statements in force that day, such as 2026-11-15; with both, of those among
 them that the reader may read. Without it they are those of all statements, whatever their days.
 For a reader or a day the proved library draws the conclusions, with the budget that they need where no --budget is given.
+'''
+ASKED = SYNTAXES + f'''
+INDIVIDUAL and EXPRESSION are written as in the register, with its prefixes, such as
+  tools/register is examples/plates.ofn :serial_412 'ObjectSomeValuesFrom(:readAgainst :ReferenceBar)'
+Shown are: owl:Thing; a class that is concluded; ObjectOneOf of one that is told to be the same, or of itself; ObjectHasSelf and
+ObjectSomeValuesFrom by the edges that are concluded; an intersection of which every part is shown, a union of which some
+part is. Nothing else is ever shown. What is shown holds in every world that fits the register. What is not shown may hold
+all the same, unless the register is plain and the expression is made of those kinds alone: then it is false in some world
+that fits. With --reader the statements are those that he may read, with --day those in force that day. The proved library answers, with the budget that `need` tells
+where no --budget is given; `{library.BUILD}` builds it.
 '''
 NEEDED = SYNTAXES + f'''
 The figure is worked out without a run, by the proved library; `{library.BUILD}` builds that. A run with a budget of at
@@ -250,6 +263,53 @@ def conclude_part(args):
     return status
 
 
+def ask(args):
+    """Whether an individual is shown to be of a class expression."""
+    if args.readers and args.reader is None:
+        raise Stop(NOT_RUN, '--readers says who may read what, for the one that --reader names')
+    packer = packed(args.file, args.strict, None)
+    individual = asked(args.individual, membership.individual, packer)
+    concept = asked(args.expression, membership.concept, packer)
+    over = packer.over(None)
+    if over:
+        raise Stop(AT_FAULT, f'{args.expression}: {over[0].words}')
+    data = packer.data()
+    book, reader = f.read(data), None
+    if args.reader is not None:
+        reader = chosen_reader(args.readers or re.sub(SUFFIX, '', args.file) + '.readers', args.reader, packer.names())
+        book = readers.part(book, reader)
+    if args.day is not None:
+        book = days.part(book, args.day)
+    try:
+        budget = args.budget
+        if budget is None:
+            budget = min(library.figure(written(book))[1], library.MOST_BUDGET)
+        count = book.counts[f.INDIVIDUALS]
+        got = library.judge(data, budget, 2 * budget, 3 * budget, count * (count - 1), individual, concept, reader and (reader.number, reader.table), args.day)
+    except library.NotBuilt as missing:
+        raise Stop(NOT_RUN, str(missing)) from None
+    who = (f', as far as {reader.name} may read' if reader else '') + ('' if args.day is None else f', on {days.written(args.day)}')
+    if got.end == library.SHOWN:
+        print(f'shown: {args.individual} is {args.expression} in every world that fits {args.file}{who}')
+        return DONE
+    if got.end == library.NOT_SHOWN:
+        print(f'not shown: {args.individual} is {args.expression}, by {args.file}{who}\n{membership.said(book, concept)}')
+        return NOT_SHOWN
+    if got.end == library.CLASH:
+        print(f'clash: no world fits {args.file}{who}')
+        return conclusions.CLASH
+    print(f'spent: the conclusions have more types and edges than the budget of {budget:,}')
+    return conclusions.SPENT
+
+
+def asked(text, find, packer):
+    """The number of what is named on the command line."""
+    try:
+        return find(packer, text)
+    except Fault as fault:
+        raise Stop(AT_FAULT, f'{text}: {fault.words}') from None
+
+
 def written(book):
     """The bytes of a book."""
     return f.write(book.counts, [(kind, *fields) for kind, fields in book.concepts], [(kind, *fields) for kind, _, fields in book.statements], book.marks)
@@ -338,6 +398,13 @@ def arguments():
     made.add_argument('position', metavar='POSITION', type=position, nargs='?', help='which one, counted from 0')
     made.add_argument('--all', metavar='DIR', help='write each as DIR/POSITION.book')
     command('need', need, 'tells how many types and edges the conclusions of FILE can have at most, and the budget to give', NEEDED)
+    made = command('is', ask, 'tells whether INDIVIDUAL is shown to be of the class expression EXPRESSION', ASKED)
+    made.add_argument('individual', metavar='INDIVIDUAL')
+    made.add_argument('expression', metavar='EXPRESSION')
+    made.add_argument('--reader', metavar='NAME', help='by the statements that this reader may read')
+    made.add_argument('--day', metavar='DATE', type=day, help='by the statements in force on this day, such as 2026-11-15')
+    made.add_argument('--readers', metavar='FILE.readers', help='who may read which workshop; FILE with .readers in place of its ending else')
+    made.add_argument('--budget', metavar='N', type=budget, help='a budget of N facts, up to 1000000')
     made = command('conclude', conclude, 'packs FILE, runs the book and prints what it concludes, told and derived apart', CONCLUDED)
     made.add_argument('--reader', metavar='NAME', help='conclude what this reader may read')
     made.add_argument('--day', metavar='DATE', type=day, help='conclude what is in force on this day, such as 2026-11-15')

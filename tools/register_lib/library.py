@@ -17,6 +17,7 @@ STACK = 16 << 20  # bytes for a call; the header asks for less
 
 MOST_BUDGET = 1000000
 FINISHED, CLASH, SPENT, REFUSED = 0, 1, 2, 100
+SHOWN, NOT_SHOWN = 3, 4
 WRITTEN = 0
 FIGURE = 0
 JUDGED = 0
@@ -53,10 +54,29 @@ def saturate_for_on(book, budget, type_room, edge_room, pair_room, reader, table
     return run('zamoluvel_saturate_for_on', book, budget, (type_room, edge_room, pair_room), fill, reader, words, len(words), day)
 
 
-def run(function, book, budget, rooms, fill, *named):
+def judge(book, budget, type_room, edge_room, pair_room, individual, concept, reader=None, day=None, fill=0):
+    """Whether the concept is shown for the individual, for a reader, (number, words of his table), and as of a day where they are given."""
+    lists, lent = lent_lists((type_room, edge_room, pair_room), fill)
+    counts = (ctypes.c_uint32 * 3)(*[fill] * 3)
+    function, named = 'zamoluvel_is', []
+    if reader is not None:
+        number, table = reader
+        function, named = function + '_for', [number, (ctypes.c_uint32 * len(table))(*table), len(table)]
+    if day is not None:
+        function, named = function + '_on', [*named, day]
+    end = called(function, book, len(book), budget, *lent, *named, individual, concept, counts, len(counts))
+    return Run(end, *counts, *lists)
+
+
+def lent_lists(rooms, fill):
+    """Lists of so many entries, and each with its length as they are handed over."""
     lists = [(ctypes.c_uint32 * room)(*[fill] * room) if fill else (ctypes.c_uint32 * room)() for room in rooms]
+    return lists, [word for entries in lists for word in (entries, len(entries))]
+
+
+def run(function, book, budget, rooms, fill, *named):
+    lists, lent = lent_lists(rooms, fill)
     counts = (ctypes.c_uint32 * 3)()
-    lent = [word for entries in lists for word in (entries, len(entries))]
     places = [ctypes.cast(ctypes.byref(counts, 4 * n), ctypes.POINTER(ctypes.c_uint32)) for n in range(3)]
     # a run as of a day writes the three counts to one array
     end = called(function, book, len(book), budget, *lent, *named, *places[:1 if function.endswith('_on') else 3])
@@ -127,6 +147,10 @@ def opened():
         'zamoluvel_saturate_for': (number, ctypes.c_char_p, size, ctypes.c_uint64, *[numbers, size] * 3, number, numbers, size, *[numbers] * 3),
         'zamoluvel_saturate_on': (number, ctypes.c_char_p, size, ctypes.c_uint64, *[numbers, size] * 3, ctypes.c_uint16, numbers),
         'zamoluvel_saturate_for_on': (number, ctypes.c_char_p, size, ctypes.c_uint64, *[numbers, size] * 3, number, numbers, size, ctypes.c_uint16, numbers),
+        'zamoluvel_is': (number, ctypes.c_char_p, size, ctypes.c_uint64, *[numbers, size] * 3, number, number, numbers, size),
+        'zamoluvel_is_for': (number, ctypes.c_char_p, size, ctypes.c_uint64, *[numbers, size] * 3, number, numbers, size, number, number, numbers, size),
+        'zamoluvel_is_on': (number, ctypes.c_char_p, size, ctypes.c_uint64, *[numbers, size] * 3, ctypes.c_uint16, number, number, numbers, size),
+        'zamoluvel_is_for_on': (number, ctypes.c_char_p, size, ctypes.c_uint64, *[numbers, size] * 3, number, numbers, size, ctypes.c_uint16, number, number, numbers, size),
         'zamoluvel_named_part': (size, *[number] * 4),
         'zamoluvel_small_book': (size, ctypes.c_uint64, ctypes.c_char_p, size),
         'zamoluvel_check_rows': (number, ctypes.c_char_p, size, numbers, size, ctypes.POINTER(size)),

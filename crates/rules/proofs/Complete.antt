@@ -79,13 +79,13 @@ module _ (B : Book) (inside : Inside B) where
   leads-is (Named r) x y = refl
   leads-is (Inverse r) x y = refl
 
-  to-edge : (ρ : Role) (x y : ℕ) → Leads W ρ x y → S (edge ρ x y) ≡ true
+  pub to-edge : (ρ : Role) (x y : ℕ) → Leads W ρ x y → S (edge ρ x y) ≡ true
   to-edge ρ x y l = sym (leads-is ρ x y) ∙ l
 
   of-edge : (ρ : Role) (x y : ℕ) → S (edge ρ x y) ≡ true → Leads W ρ x y
   of-edge ρ x y l = leads-is ρ x y ∙ l
 
-  to-type : (x c : ℕ) → W .cls c x ≡ true → S (type x c) ≡ true
+  pub to-type : (x c : ℕ) → W .cls c x ≡ true → S (type x c) ≡ true
   unfolding canonical
   to-type x c e = e
 
@@ -113,7 +113,7 @@ module _ (B : Book) (inside : Inside B) where
       let b : edge (Named r) x y % 512 ≡ y = omega arith in
       (omega (arith, w .1), omega (arith, w .2))
 
-  edge-own : (ρ : Role) (x y : ℕ) → RoleWithin h ρ → Thing W x → Thing W y → S (edge ρ x y) ≡ true → (x < n) × (y < n)
+  pub edge-own : (ρ : Role) (x y : ℕ) → RoleWithin h ρ → Thing W x → Thing W y → S (edge ρ x y) ≡ true → (x < n) × (y < n)
   edge-own (Named r) x y l tx ty e = named-own r x y l (thing-lt x tx) (thing-lt y ty) e
   edge-own (Inverse r) x y l tx ty e =
       let w = named-own r y x l (thing-lt y ty) (thing-lt x tx) (subst (λ (k : ℕ). S k ≡ true) (edge-flipped (Named r) x y) e) in
@@ -128,27 +128,27 @@ module _ (B : Book) (inside : Inside B) where
   unfolding rules
   shared i j k l e = obeys-given S (same B i j) (share n (h .classes) (h .roles) i j) (conclusions-obey B inside .1 i k j l) (same-of B i j e)
 
-  type-to : (i j c : ℕ) → i < n → j < n → c < h .classes → label B i ≡ label B j → S (type i c) ≡ true → S (type j c) ≡ true
+  pub type-to : (i j c : ℕ) → i < n → j < n → c < h .classes → label B i ≡ label B j → S (type i c) ≡ true → S (type j c) ≡ true
   type-to i j c k l m e = shared i j k l e .0 c m
 
   named-to : (r a a′ b b′ : ℕ) → r < h .roles → a < n → a′ < n → b < n → b′ < n → label B a ≡ label B a′ → label B b ≡ label B b′ → S (edge (Named r) a b) ≡ true → S (edge (Named r) a′ b′) ≡ true
   named-to r a a′ b b′ m i i′ j j′ e f q = shared b b′ j j′ f .1 r m a′ i′ .1 (shared a a′ i i′ e .1 r m b j .0 q)
 
-  edge-to : (ρ : Role) (a a′ b b′ : ℕ) → RoleWithin h ρ → a < n → a′ < n → b < n → b′ < n → label B a ≡ label B a′ → label B b ≡ label B b′ → S (edge ρ a b) ≡ true → S (edge ρ a′ b′) ≡ true
+  pub edge-to : (ρ : Role) (a a′ b b′ : ℕ) → RoleWithin h ρ → a < n → a′ < n → b < n → b′ < n → label B a ≡ label B a′ → label B b ≡ label B b′ → S (edge ρ a b) ≡ true → S (edge ρ a′ b′) ≡ true
   edge-to (Named r) a a′ b b′ m i i′ j j′ e f q = named-to r a a′ b b′ m i i′ j j′ e f q
   edge-to (Inverse r) a a′ b b′ m i i′ j j′ e f q =
       subst (λ (k : ℕ). S k ≡ true) (sym (edge-flipped (Named r) a′ b′))
       (named-to r b b′ a a′ m j j′ i i′ f e (subst (λ (k : ℕ). S k ≡ true) (edge-flipped (Named r) a b) q))
 
   -- an individual's thing
-  ind-is : (i : ℕ) → i < n → W .ind i ≡ label B i
+  pub ind-is : (i : ℕ) → i < n → W .ind i ≡ label B i
   unfolding canonical
   ind-is i l = ap (λ (b : Bool). pick b (label B i) 0) (lt-ltb (label B i) n (label-in B inside i l))
 
-  label-lt : (i : ℕ) → i < n → W .ind i < n
+  pub label-lt : (i : ℕ) → i < n → W .ind i < n
   label-lt i l = subst (λ (x : ℕ). x < n) (sym (ind-is i l)) (label-in B inside i l)
 
-  label-same : (i : ℕ) → i < n → label B i ≡ label B (W .ind i)
+  pub label-same : (i : ℕ) → i < n → label B i ≡ label B (W .ind i)
   label-same i l = label-own B i ∙ ap (label B) (sym (ind-is i l))
 
   -- what an expression asks of x is concluded

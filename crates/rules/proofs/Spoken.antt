@@ -26,7 +26,7 @@ use Rattle.rules.proofs.Demand.{demand-of}
 
 -- a refused run says nothing of worlds
 module _ (n budget : ℕ) (ts es ps : List ℕ) where
-  refused-end : (k : ℕ) × (outcomeOf (refused n) budget ts es ps .end ≡ Refused k)
+  pub refused-end : (k : ℕ) × (outcomeOf (refused n) budget ts es ps .end ≡ Refused k)
   unfolding outcomeOf
   refused-end = go (ltb 1000000 budget) (ltb (length es) (3 * budget)) (ltb (length ts) (2 * budget))
     where
@@ -86,7 +86,7 @@ module _ (r : Reader) (s : List ℕ) (B : Book) (book : decode s ≡ accepted B)
   spoken-inside = accepted-inside (restated s B (heedings r (B .statements))) (spoken r B) spoken-bytes
 
   -- what a run works on: the book spoken of, or refusal 14 or 15
-  decoded-for : (decodeFor r s ≡ accepted (spoken r B)) ⊎ ((n : ℕ) × (decodeFor r s ≡ refused n))
+  pub decoded-for : (decodeFor r s ≡ accepted (spoken r B)) ⊎ ((n : ℕ) × (decodeFor r s ≡ refused n))
   unfolding decodeFor
   decoded-for = go (r .who) (ap (spokenOf r) book)
     where

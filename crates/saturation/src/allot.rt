@@ -176,7 +176,7 @@ fn rows_of_any(
 }
 
 // Which size of tables a book asks for: 0 small, 1 to 3 by the rows of links.
-fn wanted(counts: Counts) -> u32
+pub fn wanted(counts: Counts) -> u32
     requires { ⌜ Sized (sizeOf counts) ⌝ }
     ensures { λ r. ⌜ Enough counts r ⌝ }
 {

@@ -1,4 +1,5 @@
 -- What the functions for callers in C return.
+pub mod Is
 pub mod Need
 pub mod Run
 pub mod Write

@@ -12,7 +12,7 @@ use saturation::saturate::saturate_for_on;
 use saturation::saturate::saturate_on;
 use verdict::end::End;
 
-fn code_of(end: End) -> u32
+pub fn code_of(end: End) -> u32
     ensures { λ r. ⌜ r ≡ codeOf (endOf end) ⌝ }
 {
     match end {
@@ -23,7 +23,7 @@ fn code_of(end: End) -> u32
     }
 }
 
-fn types_of(end: End) -> u32
+pub fn types_of(end: End) -> u32
     ensures { λ r. ⌜ r ≡ typeCount (endOf end) ⌝ }
 {
     match end {
@@ -34,7 +34,7 @@ fn types_of(end: End) -> u32
     }
 }
 
-fn edges_of(end: End) -> u32
+pub fn edges_of(end: End) -> u32
     ensures { λ r. ⌜ r ≡ edgeCount (endOf end) ⌝ }
 {
     match end {
@@ -45,7 +45,7 @@ fn edges_of(end: End) -> u32
     }
 }
 
-fn pairs_of(end: End) -> u32
+pub fn pairs_of(end: End) -> u32
     ensures { λ r. ⌜ r ≡ pairCount (endOf end) ⌝ }
 {
     match end {

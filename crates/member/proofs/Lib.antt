@@ -1,0 +1,4 @@
+pub mod True
+pub mod False
+pub mod Judged
+pub mod Examples
