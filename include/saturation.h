@@ -1,11 +1,11 @@
 /* The conclusions of a book, told facts and rules run to the smallest sets; whether an individual is shown to be of a
- * concept; the book itself, cleaned; what a run of it will need; and rows of derivations, checked.
+ * concept; the book itself, cleaned; what a run of it will need; and rows of derivations, listed and checked.
  *
  * Link with libzamoluvel.a (`rt staticlib zamoluvel`). The functions keep nothing between calls, allocate
  * nothing and may be called from several threads at once. A thread that calls them needs ZAMOLUVEL_STACK bytes of
- * stack; the default of many systems is enough for the first thread and not for others. That figure is measured, with
- * the worst books that are known, and not proved. Each function is proved to meet its contract (crates/zamoluvel) for
- * whatever bytes, numbers and lists it is given.
+ * stack, and for rows ZAMOLUVEL_ROWS_STACK; the default of many systems is enough for the first thread and not for others.
+ * Both figures are measured, with the worst books that are known, and not proved. Each function is proved to meet its
+ * contract (crates/zamoluvel) for whatever bytes, numbers and lists it is given.
  */
 #ifndef ZAMOLUVEL_SATURATION_H
 #define ZAMOLUVEL_SATURATION_H
@@ -20,11 +20,14 @@ extern "C" {
 /* The bytes of stack that a call takes at most. */
 #define ZAMOLUVEL_STACK 6815744u
 
+/* The same for zamoluvel_saturate_rows, which takes more than the others. */
+#define ZAMOLUVEL_ROWS_STACK 13631488u
+
 /* How a run ends. */
 #define ZAMOLUVEL_FINISHED 0u
 #define ZAMOLUVEL_CLASH 1u
 #define ZAMOLUVEL_SPENT 2u
-#define ZAMOLUVEL_REFUSED 100u /* plus the number of the refusal, 1 to 11 or 14 to 17 */
+#define ZAMOLUVEL_REFUSED 100u /* plus the number of the refusal, 1 to 11 or 13 to 17 */
 
 /* Which list zamoluvel_named_part is asked for. */
 #define ZAMOLUVEL_EDGES 0u
@@ -228,6 +231,28 @@ uint32_t zamoluvel_figure(const uint8_t *book, size_t book_len, uint32_t *needed
  */
 uint32_t zamoluvel_check_rows(const uint8_t *book, size_t book_len, const uint32_t *rows, size_t rows_len,
                               size_t *standing);
+
+/* Runs a book as zamoluvel_saturate does, and lists a derivation of all that it concludes: it lends a row list in place of
+ * the pair list.
+ *
+ *   book, book_len            the bytes of the book, any at all; they are read only
+ *   budget                    as for a run
+ *   types, types_len and so   the lent lists; 2 entries a type and 3 an edge are asked for as for a run, and 9 a row
+ *   type_count and so         receive the counts, as for a run; they must not be null
+ *
+ * After ZAMOLUVEL_FINISHED and ZAMOLUVEL_CLASH the row list has one row for each fact of the smallest sets, type_count plus
+ * edge_count of them; after a clash, where the type list and the edge list are 0, the row of the clash stands behind them. 0s
+ * fill the rest. A row is laid out as zamoluvel_check_rows says, which accepts every one of them. Which derivation a fact has,
+ * and the order of the rows, is free. At any other end the row list keeps its entries.
+ *
+ * Refused by 13, after spent, where the row list has less than 9 entries for each of these rows; and never by 11. At spent and
+ * 13 the type list and the edge list are 0.
+ *
+ * A call takes ZAMOLUVEL_ROWS_STACK bytes of stack.
+ */
+uint32_t zamoluvel_saturate_rows(const uint8_t *book, size_t book_len, uint64_t budget, uint32_t *types, size_t types_len,
+                                 uint32_t *edges, size_t edges_len, uint32_t *rows, size_t rows_len, uint32_t *type_count,
+                                 uint32_t *edge_count, uint32_t *pair_count);
 
 /* A book of the list of every small book: one class, one role, two individuals, the concept Atomic 0 and at most two
  * statements, none with a source or days. There are 1 + 61 + 3,721 of them, fewer statements first, then by their bytes.

@@ -7,7 +7,7 @@ import sys
 
 import book_format as f
 
-from . import conclusions, days, library, membership, names, readers, words
+from . import conclusions, days, library, membership, names, readers, why, words
 from .packer import MOST_BYTES, Packer
 from .source import AT_FAULT, DONE, NOT_RUN, Source, Stop, decoded, read_bytes
 from .text import Writer, counted, summary
@@ -17,6 +17,7 @@ ROOT = pathlib.Path(__file__).resolve().parent.parent.parent
 PROGRAM = ROOT / 'target' / 'bin' / 'saturate'
 PROGRAM_BUDGET = 4000  # of that program
 NOT_SHOWN = 6  # exit status
+NOT_CONCLUDED = 3  # exit status of why
 SUFFIX = r'\.(ofn|owl|ttl|nt|rdf|xml|owx|omn)$'  # of a register's file; its book has .book in place of it
 
 ABOUT = 'Books in a form that people read and write: OWL 2 functional-style syntax.'
@@ -31,8 +32,8 @@ STATUSES = '''Exit status:
      for show and clean: a refused book, for show also names that do not fit it
   2  wrong usage, a file that cannot be read or written, a program that cannot be run or prints something else,
      a library, Java or an OWL API that is not there
-  3  conclude, is: clash, no world fits the register
-  4  conclude, is: spent, more conclusions than the budget
+  3  conclude, is: clash, no world fits the register; why: the register does not conclude the fact, or does not clash
+  4  conclude, is, why: spent, more conclusions than the budget
   5  conclude: refused, or a book that is too long for the program
   6  is: not shown
 '''
@@ -89,6 +90,12 @@ part is. Nothing else is ever shown. What is shown holds in every world that fit
 all the same, unless the register is plain and the expression is made of those kinds alone: then it is false in some world
 that fits. With --reader the statements are those that he may read, with --day those in force that day. The proved library answers, with the budget that `need` tells
 where no --budget is given; `{library.BUILD}` builds it.
+'''
+EXPLAINED = SYNTAXES + f'''
+The steps are printed in functional-style syntax, facts before what follows from them: only those that the fact rests on,
+each with its rule in words and the axioms of the register that it used, by line. They are the rows of a derivation that
+the proved library lists, and they are shown only if its checker, which is proved too, accepts all of them; `{library.BUILD}`
+builds it. Another derivation of the same fact may be as good.
 '''
 NEEDED = SYNTAXES + f'''
 The figure is worked out without a run, by the proved library; `{library.BUILD}` builds that. A run with a budget of at
@@ -220,6 +227,39 @@ def need(args):
     else:
         print(f'By the proved library: tools/register conclude --budget {figure} {args.file}')
     return DONE
+
+
+def explain(args):
+    """Why a register concludes a fact, or why it clashes."""
+    packer, source = packed(args.file, args.strict, None), Source.of(args.file)
+    data = packer.data()
+    try:
+        fact = why.wanted(args.fact, packer) if args.fact else None
+    except Fault as fault:
+        raise Stop(AT_FAULT, f'{args.fact}: {fault.words}') from None
+    try:
+        rows = listed_rows(data)
+        stands = library.check_rows(data, rows)
+    except library.NotBuilt as missing:
+        raise Stop(NOT_RUN, str(missing)) from None
+    if stands != ('standing', len(rows) // why.derivation.WIDTH):
+        raise Stop(NOT_RUN, f'the checker does not accept the rows of the library: {stands[0]} {stands[1]:,}')
+    found = why.steps(packer, source, data, rows, fact)
+    if not found:
+        raise Stop(NOT_CONCLUDED, f'{args.file}: {"it does not conclude this" if fact else "it does not clash; name a fact"}')
+    print(why.text(found), end='')
+    if args.svg:
+        write_file(pathlib.Path(args.svg), why.svg(found).encode())
+    return DONE
+
+
+def listed_rows(data):
+    """The rows of all that a register concludes, and of its clash, by the library."""
+    budget = min(library.figure(data)[1], library.MOST_BUDGET)
+    got = library.saturate_rows(data, budget, 2 * budget, 3 * budget, why.derivation.WIDTH * (budget + 1))
+    if got.end not in (library.FINISHED, library.CLASH):
+        raise Stop(conclusions.SPENT, f'spent: the conclusions have more types and edges than the budget of {budget:,}')
+    return got.pairs[:why.derivation.WIDTH * (got.type_count + got.edge_count + (got.end == library.CLASH))]
 
 
 def conclude(args):
@@ -405,6 +445,9 @@ def arguments():
     made.add_argument('--day', metavar='DATE', type=day, help='by the statements in force on this day, such as 2026-11-15')
     made.add_argument('--readers', metavar='FILE.readers', help='who may read which workshop; FILE with .readers in place of its ending else')
     made.add_argument('--budget', metavar='N', type=budget, help='a budget of N facts, up to 1000000')
+    made = command('why', explain, 'tells why FILE concludes a fact, or, without one, why it clashes', EXPLAINED)
+    made.add_argument('fact', metavar='FACT', nargs='?', help="such as 'ClassAssertion(:Class :individual)' or 'ObjectPropertyAssertion(:role :first :second)'")
+    made.add_argument('--svg', metavar='OUT.svg', help='draw the same steps as a picture')
     made = command('conclude', conclude, 'packs FILE, runs the book and prints what it concludes, told and derived apart', CONCLUDED)
     made.add_argument('--reader', metavar='NAME', help='conclude what this reader may read')
     made.add_argument('--day', metavar='DATE', type=day, help='conclude what is in force on this day, such as 2026-11-15')

@@ -169,7 +169,8 @@ def write(run, book, size, names, budget=None, reader=None, day=None):
     if word == 'clash':
         sizes = f'{counted(numbers[0], "type")} and {counted(numbers[1], "edge")}'
         which = (f'what {reader.name} may read of this register' if reader else 'this register') + ('' if day is None else f' on {days.written(day)}')
-        return CLASH, f'clash: no world fits {which}; its smallest sets have {sizes}.\n'
+        ask = '' if reader or day is not None else 'Why: tools/register why FILE\n'
+        return CLASH, f'clash: no world fits {which}; its smallest sets have {sizes}.\n{ask}'
     if word == 'spent':
         which = "the program's budget (4,000 for saturate)" if budget is None else f'the budget of {budget:,}'
         return SPENT, (f'spent: the conclusions have more types and edges than {which}.\n'

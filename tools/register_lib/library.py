@@ -102,6 +102,11 @@ def figure(book):
     return code, needed.value
 
 
+def saturate_rows(book, budget, type_room, edge_room, row_room, fill=0):
+    """A run on the bytes of a book that lends a row list in place of the pair list."""
+    return run('zamoluvel_saturate_rows', book, budget, (type_room, edge_room, row_room), fill)
+
+
 def check_rows(book, rows):
     """The checker on the bytes of a book and a list of numbers: ('standing', how many rows) or ('refused', number)."""
     standing = ctypes.c_size_t()
@@ -153,6 +158,7 @@ def opened():
         'zamoluvel_is_for_on': (number, ctypes.c_char_p, size, ctypes.c_uint64, *[numbers, size] * 3, number, numbers, size, ctypes.c_uint16, number, number, numbers, size),
         'zamoluvel_named_part': (size, *[number] * 4),
         'zamoluvel_small_book': (size, ctypes.c_uint64, ctypes.c_char_p, size),
+        'zamoluvel_saturate_rows': (number, ctypes.c_char_p, size, ctypes.c_uint64, *[numbers, size] * 3, *[numbers] * 3),
         'zamoluvel_check_rows': (number, ctypes.c_char_p, size, numbers, size, ctypes.POINTER(size)),
         'zamoluvel_write': (number, ctypes.c_char_p, size, ctypes.c_char_p, size, ctypes.POINTER(size)),
     }

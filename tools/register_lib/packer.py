@@ -49,6 +49,7 @@ class Packer:
         self.classes, self.roles, self.individuals, self.concepts = self.tables = {}, {}, {}, {}
         # each statement as (record, its source, its days); a source is its name, or None for the shared book
         self.statements, self.told, self.first_over = [], 0, None
+        self.places = []  # of each statement, the offset of its axiom
         self.sources, self.known = {}, dict(known)  # of each source in statements, the offset of its first mention
         self.left_out = {}  # kind: [how often, offset of the first]
 
@@ -142,6 +143,7 @@ class Packer:
         if self.first_over is None and count * len(sources) > room:
             self.first_over = at
         self.statements += islice(((record, source, period) for record in records for source in sources), room)
+        self.places += [at] * (len(self.statements) - len(self.places))
         self.told += count * len(sources)
         for source, mentioned in sources.items():
             if source:

@@ -60,7 +60,7 @@ class Conclusions(FileCase):
         self.assertEqual(self.concluded(pairs), (5, "refused 11: more same pairs than the program's list holds (2,000 for saturate).\n"
                          'With room for all pairs, by the proved library: tools/register conclude --budget 4000 FILE\n', ''))
         self.assertEqual(self.concluded('DisjointClasses(:A :A) ClassAssertion(:A :a)'),
-                         (3, 'clash: no world fits this register; its smallest sets have 1 type and 0 edges.\n', ''))
+                         (3, 'clash: no world fits this register; its smallest sets have 1 type and 0 edges.\nWhy: tools/register why FILE\n', ''))
         book = f.read(WORKED.data)
         self.assertEqual(conclusions.write(conclusions.Run('long', [], []), book, 65537, None),
                          (5, 'long: the book has 65,537 bytes, more than the program reads (65,536 for saturate).\n'))

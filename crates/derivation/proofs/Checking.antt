@@ -107,7 +107,7 @@ module _ {s O : List ℕ} {h : Counts} (o : Open s h O) where
   mark-low (ClassAssertion c i) = tt
   mark-low (ObjectPropertyAssertion r a b) = tt
 
-  marks-low : Every (λ (m : Mark). m .left < h .classes) (marks (bookOf s))
+  pub marks-low : Every (λ (m : Mark). m .left < h .classes) (marks (bookOf s))
   marks-low = every-from (λ x. Unit {0}) (λ (m : Mark). m .left < h .classes) (marksBy (bookOf s)) (λ x u. mark-low x) (statements (bookOf s)) (every-all (λ x. Unit {0}) (λ x. tt) (statements (bookOf s)))
 
 -- what the tests say of row k of a list, for the book's own counts

@@ -1,2 +1,5 @@
 pub mod Stand
 pub mod Ended
+pub mod Clashes
+pub mod Running
+pub mod Filling

@@ -1,11 +1,14 @@
 // A run, and the named part of a list.
 ghost use mathlib.Core.Path.{_≡_};
+ghost use lib.ListN.{length};
 ghost use Rattle.book.specs.Book.{Book, accepted, decode};
 ghost use Rattle.rules.specs.Ends.{outcome};
 ghost use Rattle.rules.specs.Spoken.{reader as named, anyoneOn, readerOn, spoken, outcomeFor};
 ghost use Rattle.rules.specs.Demand.{Demand};
 ghost use Rattle.verdict.specs.Conclude.{endOf, came};
+ghost use Rattle.listing.specs.Listing.{ended, Left};
 ghost use Rattle.zamoluvel.specs.Run.{codeOf, typeCount, edgeCount, pairCount, threeCounts, filledEntries};
+use listing::run::saturate_rows;
 use saturation::saturate::saturate;
 use saturation::saturate::saturate_for;
 use saturation::saturate::saturate_for_on;
@@ -171,6 +174,33 @@ pub extern "C" fn zamoluvel_saturate_for_on(
 {
     let end = saturate_for_on(book, budget, types, edges, pairs, reader, table, day);
     *counts = [types_of(end), edges_of(end), pairs_of(end)];
+    code_of(end)
+}
+
+// `saturate_rows`, with each count in a place of its own.
+#[no_mangle]
+pub extern "C" fn zamoluvel_saturate_rows(
+    book: &[u8],
+    budget: u64,
+    types: &mut [u32],
+    edges: &mut [u32],
+    rows: &mut [u32],
+    type_count: &mut u32,
+    edge_count: &mut u32,
+    pair_count: &mut u32,
+) -> u32
+    ensures { λ r. ⌜ r ≡ codeOf (ended (now (book .entry)) budget (now (types .entry)) (now (edges .entry)) (length (now (rows .entry))) .end) ⌝ }
+    ensures { λ _. ⌜ now («type_count» .exit) ≡ typeCount (ended (now (book .entry)) budget (now (types .entry)) (now (edges .entry)) (length (now (rows .entry))) .end) ⌝ }
+    ensures { λ _. ⌜ now («edge_count» .exit) ≡ edgeCount (ended (now (book .entry)) budget (now (types .entry)) (now (edges .entry)) (length (now (rows .entry))) .end) ⌝ }
+    ensures { λ _. ⌜ now («pair_count» .exit) ≡ pairCount (ended (now (book .entry)) budget (now (types .entry)) (now (edges .entry)) (length (now (rows .entry))) .end) ⌝ }
+    ensures { λ _. ⌜ now (types .exit) ≡ ended (now (book .entry)) budget (now (types .entry)) (now (edges .entry)) (length (now (rows .entry))) .types ⌝ }
+    ensures { λ _. ⌜ now (edges .exit) ≡ ended (now (book .entry)) budget (now (types .entry)) (now (edges .entry)) (length (now (rows .entry))) .edges ⌝ }
+    ensures { λ _. ⌜ Left (now (book .entry)) (ended (now (book .entry)) budget (now (types .entry)) (now (edges .entry)) (length (now (rows .entry))) .end) (now (rows .entry)) (now (rows .exit)) ⌝ }
+{
+    let end = saturate_rows(book, budget, types, edges, rows);
+    *type_count = types_of(end);
+    *edge_count = edges_of(end);
+    *pair_count = pairs_of(end);
     code_of(end)
 }
 

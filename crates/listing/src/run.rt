@@ -1,0 +1,198 @@
+// A run that lends a row list in place of the pair list: the run itself first, and then its rows.
+ghost use mathlib.Core.Path.{_≡_};
+ghost use Prim.Native.Nat.{_+_, _*_, _≤_};
+ghost use lib.ListN.{length, replicate};
+ghost use Rattle.book.specs.Reader.{rest};
+ghost use Rattle.book.specs.Read.{pick};
+ghost use Rattle.rows.specs.Table.{Table};
+ghost use Rattle.rules.specs.Lists.{entries2, filled};
+ghost use Rattle.rules.specs.Ends.{outcome};
+ghost use Rattle.tables.specs.Open.{bookOf, sizeOf, Open};
+ghost use Rattle.verdict.specs.Listing.{typesOf};
+ghost use Rattle.verdict.specs.Conclude.{endOf};
+ghost use Rattle.listing.specs.Listing.{RowsRun};
+ghost use Rattle.listing.specs.Running.{Ran, RowsLeft, RunListed, ended-as};
+use super::fill::fill_rows;
+use book::check::Checked;
+use book::check::check_book;
+use book::header::Counts;
+use saturation::saturate::saturate;
+use tables::size::size_of;
+use turns::round::Due;
+use verdict::end::End;
+use verdict::list::clear;
+use verdict::list::list_types;
+
+// What a run came to: how many types, edges and same pairs, and whether it is a clash.
+pub struct Numbers {
+    pub types: u32,
+    pub edges: u32,
+    pub pairs: u32,
+    pub clashes: bool,
+}
+
+// Both lists are 0.
+fn clear_both(types: &mut [u32], edges: &mut [u32])
+    ensures { λ _. ⌜ (now (types .exit) ≡ replicate (length (now (types .entry))) 0) × (now (edges .exit) ≡ replicate (length (now (edges .entry))) 0) ⌝ }
+{
+    clear(types, 0);
+    clear(edges, 0);
+}
+
+// How many entries the rows take.
+fn entries_due(numbers: Numbers) -> usize
+    requires { ⌜ numbers .types + numbers .edges ≤ 16908288 ⌝ }
+    ensures { λ r. ⌜ r ≡ 9 * (numbers .types + numbers .edges + pick (numbers .clashes) 1 0) ⌝ }
+{
+    let n = (numbers.types + numbers.edges) as usize;
+    if numbers.clashes {
+        return 9 * (n + 1);
+    }
+    9 * n
+}
+
+// The run itself, with a pair list that has room for all pairs there can be.
+fn run_plain(book: &[u8], budget: u64, types: &mut [u32], edges: &mut [u32]) -> End
+    ensures { λ r. ⌜ endOf r ≡ outcome (now (book .entry)) budget (now (types .entry)) (now (edges .entry)) (replicate 524288 0) .end ⌝ }
+    ensures { λ r. ⌜ now (types .exit) ≡ outcome (now (book .entry)) budget (now (types .entry)) (now (edges .entry)) (replicate 524288 0) .types ⌝ }
+    ensures { λ r. ⌜ now (edges .exit) ≡ outcome (now (book .entry)) budget (now (types .entry)) (now (edges .entry)) (replicate 524288 0) .edges ⌝ }
+{
+    let mut pairs = [0u32; 524288];
+    saturate(book, budget, types, edges, &mut pairs)
+}
+
+// The types again, where the run has any: until then their list has the places of the rows.
+fn list_again(t: &[u64], counts: Counts, numbers: Numbers, types: &mut [u32])
+    requires { ⌜ Table (sizeOf counts) (now t) × (2 * length (typesOf (sizeOf counts) (now t)) ≤ length (now types)) ⌝ }
+    ensures { λ _. ⌜ now (types .exit) ≡ pick (numbers .clashes) (replicate (length (now (types .entry))) 0) (filled (entries2 (typesOf (sizeOf counts) (now (t .entry)))) (length (now (types .entry)))) ⌝ }
+{
+    if numbers.clashes {
+        clear(types, 0);
+        return;
+    }
+    list_types(types, t, size_of(counts));
+}
+
+// The rows of a checked book.
+fn list_checked(
+    book: &[u8],
+    from: usize,
+    offsets: &[usize],
+    counts: Counts,
+    numbers: Numbers,
+    types: &mut [u32],
+    rows: &mut [u32],
+)
+    requires { ⌜ Open (now book) counts (now offsets) ⌝ }
+    requires { ⌜ rest (now book) counts from ≡ bookOf (now book) .statements ⌝ }
+    requires { ⌜ Ran (now book) numbers (now types) × (9 * (numbers .types + numbers .edges + pick (numbers .clashes) 1 0) ≤ length (now rows)) ⌝ }
+    ensures { λ _. ⌜ RowsLeft (now (book .entry)) numbers (now (types .entry)) (now (rows .entry)) (now (types .exit)) (now (rows .exit)) ⌝ }
+{
+    let mut t = [0u64; 532520];
+    let used = numbers.types + numbers.edges;
+    let due = Due { counts, used };
+    clear(types, 0);
+    fill_rows(
+        book,
+        from,
+        offsets,
+        due,
+        numbers.clashes,
+        &mut t,
+        rows,
+        types,
+    );
+    list_again(&t, counts, numbers, types);
+    clear(rows, entries_due(numbers));
+}
+
+fn list_any(
+    book: &[u8],
+    offsets: &mut [usize],
+    numbers: Numbers,
+    types: &mut [u32],
+    rows: &mut [u32],
+)
+    requires { ⌜ 4096 ≤ length (now offsets) ⌝ }
+    requires { ⌜ Ran (now book) numbers (now types) × (9 * (numbers .types + numbers .edges + pick (numbers .clashes) 1 0) ≤ length (now rows)) ⌝ }
+    ensures { λ _. ⌜ RowsLeft (now (book .entry)) numbers (now (types .entry)) (now (rows .entry)) (now (types .exit)) (now (rows .exit)) ⌝ }
+{
+    let check = check_book(book, offsets);
+    let Checked::Accepted(counts, from) = check else {
+        return;
+    };
+    list_checked(book, from, offsets, counts, numbers, types, rows);
+}
+
+// The rows of a book that was run.
+fn list_rows(book: &[u8], numbers: Numbers, types: &mut [u32], rows: &mut [u32])
+    requires { ⌜ Ran (now book) numbers (now types) × (9 * (numbers .types + numbers .edges + pick (numbers .clashes) 1 0) ≤ length (now rows)) ⌝ }
+    ensures { λ _. ⌜ RowsLeft (now (book .entry)) numbers (now (types .entry)) (now (rows .entry)) (now (types .exit)) (now (rows .exit)) ⌝ }
+{
+    let mut offsets = [0usize; 4096];
+    list_any(book, &mut offsets, numbers, types, rows);
+}
+
+fn end_with(numbers: Numbers) -> End
+    ensures { λ r. ⌜ endOf r ≡ ended-as numbers ⌝ }
+{
+    if numbers.clashes {
+        return End::Clash(numbers.types, numbers.edges);
+    }
+    End::Finished(numbers.types, numbers.edges, numbers.pairs)
+}
+
+// A clash or finished: 13, or its rows.
+fn run_listed(
+    book: &[u8],
+    numbers: Numbers,
+    types: &mut [u32],
+    edges: &mut [u32],
+    rows: &mut [u32],
+) -> End
+    requires { ⌜ Ran (now book) numbers (now types) ⌝ }
+    ensures { λ r. ⌜ RunListed (now (book .entry)) numbers (now (types .entry)) (now (edges .entry)) (now (rows .entry)) (record { end = endOf r; types = now (types .exit); edges = now (edges .exit) }) (now (rows .exit)) ⌝ }
+{
+    if rows.len() < entries_due(numbers) {
+        clear_both(types, edges);
+        return End::Refused(13);
+    }
+    list_rows(book, numbers, types, rows);
+    end_with(numbers)
+}
+
+// Runs the book and lists its rows: any bytes, any budget, any lists. End, type list and edge list are the defined ones; and the row list is as it was, or
+// a listing of the book.
+pub fn saturate_rows(
+    book: &[u8],
+    budget: u64,
+    types: &mut [u32],
+    edges: &mut [u32],
+    rows: &mut [u32],
+) -> End
+    ensures { λ r. ⌜ RowsRun (now (book .entry)) budget (now (types .entry)) (now (edges .entry)) (now (rows .entry)) (record { end = endOf r; types = now (types .exit); edges = now (edges .exit) }) (now (rows .exit)) ⌝ }
+{
+    let end = run_plain(book, budget, types, edges);
+    match end {
+        End::Refused(n) => End::Refused(n),
+        End::Spent => End::Spent,
+        End::Clash(t, e) => {
+            let numbers = Numbers {
+                types: t,
+                edges: e,
+                pairs: 0,
+                clashes: true,
+            };
+            run_listed(book, numbers, types, edges, rows)
+        }
+        End::Finished(t, e, p) => {
+            let numbers = Numbers {
+                types: t,
+                edges: e,
+                pairs: p,
+                clashes: false,
+            };
+            run_listed(book, numbers, types, edges, rows)
+        }
+    }
+}
