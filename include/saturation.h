@@ -21,7 +21,7 @@ extern "C" {
 #define ZAMOLUVEL_STACK 6815744u
 
 /* The same for zamoluvel_saturate_rows, which takes more than the others. */
-#define ZAMOLUVEL_ROWS_STACK 13631488u
+#define ZAMOLUVEL_ROWS_STACK 14680064u
 
 /* How a run ends. */
 #define ZAMOLUVEL_FINISHED 0u
@@ -40,7 +40,7 @@ extern "C" {
  *   budget            how many facts, types and edges together, may be kept: at most 1,000,000
  *   types, types_len  the type list, at least 2 * budget entries: (individual, class) for each type
  *   edges, edges_len  the edge list, at least 3 * budget entries: (role, first, second) for each edge
- *   pairs, pairs_len  the pair list: (lower, higher) for each same pair
+ *   pairs, pairs_len  the pair list: (lower, higher) for each two individuals of one class, told or found to be the same
  *   type_count, edge_count, pair_count
  *                     each receives a count; 0 where the end has none. They must not be null.
  *
@@ -108,7 +108,7 @@ uint32_t zamoluvel_saturate_for_on(const uint8_t *book, size_t book_len, uint64_
 #define ZAMOLUVEL_NOT_SHOWN 4u
 
 /* Is this individual of that concept? Runs the book, as zamoluvel_saturate does, and judges the concept by what the run
- * concludes. Top is shown; Atomic where the type is concluded; Nominal where both are in one class of told-same individuals,
+ * concludes. Top is shown; Atomic where the type is concluded; Nominal where both are in one class, told or found,
  * each being with itself; SelfRestriction where the role leads the individual to itself; And where every part is shown, Or
  * where some part is; Some where the role leads to an individual for which the inner concept is shown. An inverse role leads
  * the other way. Every other kind is not shown, although it may hold.
@@ -215,12 +215,14 @@ uint32_t zamoluvel_figure(const uint8_t *book, size_t book_len, uint32_t *needed
  *   standing        receives how many rows stand; 0 where the book is refused. It must not be null.
  *
  * A row is: the rule, 1 to 8; the statement, counted from 0; three earlier rows, counted from 0; the kind of fact (0 type,
- * 1 edge, 2 clash); and the fact's three numbers (a type: individual, class; an edge: role, first, second; a clash: none).
- * Each of them is ZAMOLUVEL_NONE where there is none. A row is accepted exactly where it is laid out so and its fact
- * follows by one use of the rule from the statement and the facts of the rows that it names, in any order, individuals
- * matched by number; the told-same classes, and for a clash all statements, count as known. Rule 6 names no statement, rule
- * 8 one of the book's or none. An incomplete last row is not accepted. Each row that stands has its fact in the smallest
- * sets of the book, and a clash row that stands means that the book clashes.
+ * 1 edge, 2 clash, 3 joining); and the fact's three numbers (a type: individual, class; an edge: role, first, second; a
+ * clash: none; a joining: two individuals, the lower number first). Each of them is ZAMOLUVEL_NONE where there is none. A row
+ * is accepted exactly where it is laid out so and its fact follows by one use of the rule from the statement and the facts of
+ * the rows that it names, in any order, individuals matched by number; the told-same classes, and for a clash all statements,
+ * count as known. Rule 7 joins two fillers of one subject, from two edges. Rule 6 names no statement, and for each individual
+ * that it changes to one outside its told-same class the joining row of the two. Rule 8 names a statement of the book or none.
+ * An incomplete last row is not accepted. Each row that stands has its fact in the smallest sets of the book, a joining row
+ * that stands is a same pair, and a clash row that stands means that the book clashes.
  *
  * The book, the rows and the count must not overlap; of no entries the pointer may be any that is not null. A call takes
  * some 4 MB of stack.
@@ -240,9 +242,9 @@ uint32_t zamoluvel_check_rows(const uint8_t *book, size_t book_len, const uint32
  *   types, types_len and so   the lent lists; 2 entries a type and 3 an edge are asked for as for a run, and 9 a row
  *   type_count and so         receive the counts, as for a run; they must not be null
  *
- * After ZAMOLUVEL_FINISHED and ZAMOLUVEL_CLASH the row list has one row for each fact of the smallest sets, type_count plus
- * edge_count of them; after a clash, where the type list and the edge list are 0, the row of the clash stands behind them. 0s
- * fill the rest. A row is laid out as zamoluvel_check_rows says, which accepts every one of them. Which derivation a fact has,
+ * After ZAMOLUVEL_FINISHED and ZAMOLUVEL_CLASH the row list has one row for each fact of the smallest sets: type_count plus
+ * edge_count of them, and a joining row for each same pair that is not in one told class; after a clash, where the type list
+ * and the edge list are 0, the row of the clash stands behind them. 0s fill the rest; no row has rule 0. A row is laid out as zamoluvel_check_rows says, which accepts every one of them. Which derivation a fact has,
  * and the order of the rows, is free. At any other end the row list keeps its entries.
  *
  * Refused by 13, after spent, where the row list has less than 9 entries for each of these rows; and never by 11. At spent and

@@ -75,8 +75,8 @@ def bars():
 
     # whose statement it was
     one = Register(0, 0, 2).tell(f.SAME, 0, 1, source=1).data()
-    row('a source 1', one, 'finished 0 0 0')
-    row('a source 1,023', one[:-2] + f.u16(1023), 'finished 0 0 0')
+    row('a source 1', one, 'finished 0 0 1', pairs=[(0, 1)])
+    row('a source 1,023', one[:-2] + f.u16(1023), 'finished 0 0 1', pairs=[(0, 1)])
     row('a written source 0: refused 5', one[:-2] + f.u16(0), 'refused 5')
     row('a source 1,024: refused 9', one[:-2] + f.u16(1024), 'refused 9')
     row('a source cut off: refused 4', one[:-1], 'refused 4')
@@ -93,8 +93,8 @@ def bars():
 
     # days
     one = Register(0, 0, 2).tell(f.SAME, 0, 1, first=1, last=1).data()
-    row('a period of one day', one, 'finished 0 0 0')
-    row('the longest period that is written whole', one[:-4] + f.u16(1, 65534), 'finished 0 0 0')
+    row('a period of one day', one, 'finished 0 0 1', pairs=[(0, 1)])
+    row('the longest period that is written whole', one[:-4] + f.u16(1, 65534), 'finished 0 0 1', pairs=[(0, 1)])
     row('a written first day 0: refused 5', one[:-4] + f.u16(0, 1), 'refused 5')
     row('a written last day 65,535: refused 5', one[:-4] + f.u16(1, 65535), 'refused 5')
     row('a last day before the first: refused 16', one[:-4] + f.u16(258, 257), 'refused 16')
@@ -102,13 +102,13 @@ def bars():
     row('a last day cut off: refused 4, though the first day is known', one[:-1], 'refused 4')
     row('bit 11 of a map: refused 8', one[:7] + b'\x08' + one[8:], 'refused 8')
     one = Register(0, 0, 2).tell(f.SAME, 0, 1, first=65535).data()
-    row('a first day 65,535 alone', one, 'finished 0 0 0')
+    row('a first day 65,535 alone', one, 'finished 0 0 1', pairs=[(0, 1)])
     row('a first day 0 alone: refused 5', one[:-2] + f.u16(0), 'refused 5')
     one = Register(0, 0, 2).tell(f.SAME, 0, 1, last=0).data()
-    row('a last day 0 alone', one, 'finished 0 0 0')
+    row('a last day 0 alone', one, 'finished 0 0 1', pairs=[(0, 1)])
     row('a last day 65,535 alone: refused 5', one[:-2] + f.u16(65535), 'refused 5')
     one = Register(0, 0, 2).tell(f.SAME, 0, 1, source=1, first=2, last=3).data()
-    row('a source and a period', one, 'finished 0 0 0')
+    row('a source and a period', one, 'finished 0 0 1', pairs=[(0, 1)])
     row('a source 1,024 and a last day before the first: refused 9', one[:-6] + f.u16(1024, 3, 2), 'refused 9')
     b = Register(0, 1, 3).tell(f.TRANSITIVE, P, last=9).tell(f.ROLE_ASSERTION, P, 0, 1, first=20).tell(f.ROLE_ASSERTION, P, 1, 2, first=10, last=19)
     row('p transitive to day 9, p(0,1) and p(1,2) in periods behind it: p(0,2), as no day is named', b, 'finished 0 3 0', edges=[(0, 0, 1), (0, 0, 2), (0, 1, 2)])
@@ -149,12 +149,12 @@ def bars():
 
     # rule 6
     b = Register(0, 1, 2).tell(f.SAME, 0, 1).tell(f.ROLE_ASSERTION, P, 0, 0)
-    star('0 same as 1, p(0,0): 4 edges', b, 'finished 0 4 0', edges=[(0, 0, 0), (0, 0, 1), (0, 1, 0), (0, 1, 1)])
+    star('0 same as 1, p(0,0): 4 edges and the pair', b, 'finished 0 4 1', edges=[(0, 0, 0), (0, 0, 1), (0, 1, 0), (0, 1, 1)], pairs=[(0, 1)])
     b = Register(0, 1, 2).tell(f.SAME, 0, 1).tell(f.ROLE_ASSERTION, P, 1, 1)
-    row('0 same as 1, p(1,1): 4 edges', b, 'finished 0 4 0', edges=[(0, 0, 0), (0, 0, 1), (0, 1, 0), (0, 1, 1)])
+    row('0 same as 1, p(1,1): 4 edges and the pair', b, 'finished 0 4 1', edges=[(0, 0, 0), (0, 0, 1), (0, 1, 0), (0, 1, 1)], pairs=[(0, 1)])
     b = Register(1, 0, 4)
     a, = b.classes(1)
-    row('0 same as 1, 0 same as 2, 1:A: 0:A and 2:A', b.tell(f.SAME, 0, 1).tell(f.SAME, 0, 2).tell(f.CLASS_ASSERTION, a, 1), 'finished 3 0 0', types=[(0, 0), (1, 0), (2, 0)])
+    row('0 same as 1, 0 same as 2, 1:A: 0:A and 2:A', b.tell(f.SAME, 0, 1).tell(f.SAME, 0, 2).tell(f.CLASS_ASSERTION, a, 1), 'finished 3 0 3', types=[(0, 0), (1, 0), (2, 0)], pairs=[(0, 1), (0, 2), (1, 2)])
 
     # rules 1 and 2
     def nested(b):
@@ -241,13 +241,22 @@ def bars():
     b.tell(f.FUNCTIONAL, 0).tell(f.FUNCTIONAL, 2).tell(f.RANGE, 4, a).tell(f.SUB_CLASS, a, v).tell(f.CLASS_ASSERTION, a, 1)
     for r, x, y in [(0, 0, 1), (0, 0, 2), (2, 3, 2), (2, 3, 4), (4, 5, 4)]:
         b.tell(f.ROLE_ASSERTION, r, x, y)
-    star('the worked book of seven individuals', b, 'finished 3 8 2', types=[(1, 0), (2, 0), (4, 0)],
-         edges=[(0, 0, 1), (0, 0, 2), (1, 3, 2), (1, 3, 4), (2, 5, 4), (3, 1, 6), (3, 2, 6), (3, 4, 6)], pairs=[(1, 2), (2, 4)])
-    row('the same with a pair list of two entries: refused 11', b, 'refused 11', room=2)
+    star('the worked book of seven individuals', b, 'finished 3 12 3', types=[(1, 0), (2, 0), (4, 0)],
+         edges=[(0, 0, 1), (0, 0, 2), (0, 0, 4), (1, 3, 1), (1, 3, 2), (1, 3, 4), (2, 5, 1), (2, 5, 2), (2, 5, 4), (3, 1, 6), (3, 2, 6), (3, 4, 6)],
+         pairs=[(1, 2), (1, 4), (2, 4)], budget=15)
+    row('the same with a pair list of four entries: refused 11', b, 'refused 11', budget=15, room=4)
+    row('the same with budget 14: spent', b, 'spent', budget=14)
     b = Register(1, 1, 3)
     a, = b.classes(1)
     b.tell(f.INVERSE_FUNCTIONAL, P).tell(f.ROLE_ASSERTION, P, 1, 0).tell(f.ROLE_ASSERTION, P, 2, 0).tell(f.CLASS_ASSERTION, a, 1)
     row('p inverse functional, p(1,0), p(2,0), 1:A: 2:A', b, 'finished 2 2 1', types=[(1, 0), (2, 0)], edges=[(0, 1, 0), (0, 2, 0)], pairs=[(1, 2)])
+    b = Register(0, 2, 5).tell(f.FUNCTIONAL, P).tell(f.INVERSE_FUNCTIONAL, Q)
+    for r, x, y in [(P, 0, 1), (P, 0, 2), (Q, 3, 1), (Q, 4, 2)]:
+        b.tell(f.ROLE_ASSERTION, r, x, y)
+    row('a join that makes a join: p(0,1), p(0,2), q(3,1), q(4,2), p functional, q inverse functional', b, 'finished 0 6 2',
+        edges=[(0, 0, 1), (0, 0, 2), (1, 3, 1), (1, 3, 2), (1, 4, 1), (1, 4, 2)], pairs=[(1, 2), (3, 4)])
+    b = Register(0, 1, 5).tell(f.SAME, 2, 3).tell(f.FUNCTIONAL, P).tell(f.ROLE_ASSERTION, P, 0, 1).tell(f.ROLE_ASSERTION, P, 0, 2)
+    row('p functional, p(0,1), p(0,2), 2 same as 3: one class of told and found', b, 'finished 0 3 3', edges=[(0, 0, 1), (0, 0, 2), (0, 0, 3)], pairs=[(1, 2), (1, 3), (2, 3)], budget=3)
 
     # clash
     b = Register(1, 0, 1)
@@ -296,15 +305,17 @@ def bars():
     row('an And of A alone brings no marker', b.tell(f.FUNCTIONAL, P).tell(f.DISJOINT, c, d).tell(f.SUB_CLASS, b.both(a), e).tell(f.CLASS_ASSERTION, a, 0), 'finished 1 0 0', types=[(0, 0)])
 
     # a plain book, for which the proofs show that the theorem on plain books is about something
-    b = Register(4, 2, 3)
+    b = Register(4, 2, 4)
     a, x, c, d = b.classes(4)
     top = b.concept(f.TOP)
     right = b.both(x, b.both(top, b.value(Q, 2)))
     told = b.both(b.both(a), top)
     b.tell(f.SUB_CLASS, a, right).tell(f.EQUIVALENT, x, c).tell(f.DISJOINT, a, d).tell(f.SUB_ROLE, P_INV, Q).tell(f.DOMAIN, P_INV, b.both(b.both(c)))
-    b.tell(f.SAME, 0, 1).tell(f.CLASS_ASSERTION, told, 0).tell(f.ROLE_ASSERTION, P, 0, 2)
-    row('a plain book', b, 'finished 8 6 0', types=[(0, 0), (0, 1), (0, 2), (1, 0), (1, 1), (1, 2), (2, 1), (2, 2)],
-        edges=[(0, 0, 2), (0, 1, 2), (1, 0, 2), (1, 1, 2), (1, 2, 0), (1, 2, 1)], budget=14)
+    b.tell(f.FUNCTIONAL, P).tell(f.SAME, 0, 1).tell(f.CLASS_ASSERTION, told, 0).tell(f.ROLE_ASSERTION, P, 0, 2).tell(f.ROLE_ASSERTION, P, 1, 3)
+    ones, others = (0, 1), (2, 3)
+    row('a plain book', b, 'finished 10 12 2', types=[(i, k) for i in ones for k in range(3)] + [(i, k) for i in others for k in (1, 2)],
+        edges=[(0, i, j) for i in ones for j in others] + [(1, i, j) for i in ones for j in others] + [(1, j, i) for j in others for i in ones],
+        pairs=[ones, others], budget=22)
     return out
 
 
@@ -337,7 +348,7 @@ def readings():
     # every part of the conclusions comes from readable statements
     own = words(s1=1)
     b = Register(0, 1, 2).tell(f.SAME, 0, 1, source=1).tell(f.ROLE_ASSERTION, P, 0, 0)
-    row('0 same as 1 by source 1, p(0,0): 4 edges for reader 0', b, 'finished 0 4 0', (0, own), edges=[(0, 0, 0), (0, 0, 1), (0, 1, 0), (0, 1, 1)])
+    row('0 same as 1 by source 1, p(0,0): 4 edges for reader 0', b, 'finished 0 4 1', (0, own), edges=[(0, 0, 0), (0, 0, 1), (0, 1, 0), (0, 1, 1)], pairs=[(0, 1)])
     row('and 1 for reader 1', b, 'finished 0 1 0', (1, own), edges=[(0, 0, 0)])
     b = Register(2, 0, 1)
     a, c = b.classes(2)
@@ -385,7 +396,7 @@ def readings():
 
     # every part of the conclusions comes from statements in force
     b = Register(0, 1, 2).tell(f.SAME, 0, 1, first=5, last=5).tell(f.ROLE_ASSERTION, P, 0, 0)
-    row('0 same as 1 on day 5, p(0,0): 4 edges on day 5', b, 'finished 0 4 0', None, day=5, edges=[(0, 0, 0), (0, 0, 1), (0, 1, 0), (0, 1, 1)])
+    row('0 same as 1 on day 5, p(0,0): 4 edges on day 5', b, 'finished 0 4 1', None, day=5, edges=[(0, 0, 0), (0, 0, 1), (0, 1, 0), (0, 1, 1)], pairs=[(0, 1)])
     row('and 1 on day 6', b, 'finished 0 1 0', None, day=6, edges=[(0, 0, 0)])
     b = Register(2, 0, 1)
     a, c = b.classes(2)

@@ -105,6 +105,30 @@ fn merge_deep() -> Book {
     book
 }
 
+/// Two lines of n - 1 individuals under a functional role, whose first are the fillers of one subject under another: each two
+/// that are joined share their edges, which joins the next two, lower numbers later.
+pub fn joins_in_a_row(n: u16) -> Book {
+    let mut book = empty(0, 2, 2 * usize::from(n));
+    [P, Q].into_iter().for_each(|role| book.tell(book::FUNCTIONAL, &[role]));
+    for i in 2..n {
+        book.tell(book::ROLE_ASSERTION, &[P, i, i - 1]);
+        book.tell(book::ROLE_ASSERTION, &[P, n + i, n + i - 1]);
+    }
+    book.tell(book::ROLE_ASSERTION, &[Q, 0, n - 1]);
+    book.tell(book::ROLE_ASSERTION, &[Q, 0, 2 * n - 1]);
+    book
+}
+
+/// One subject with nine fillers under each of 64 functional roles, the last of one role the first of the next.
+fn joins_of_roles() -> Book {
+    let mut book = empty(0, 64, 512);
+    for role in 0..64 {
+        book.tell(book::FUNCTIONAL, &[2 * role]);
+        (0..9).filter(|k| 8 * role + k < 511).for_each(|k| book.tell(book::ROLE_ASSERTION, &[2 * role, 511, 8 * role + k]));
+    }
+    book
+}
+
 /// 16 blocks of 32 told-same individuals and 36 edges between them.
 fn same_blocks() -> Book {
     let mut book = empty(0, 1, 512);
@@ -217,6 +241,8 @@ pub fn all() -> Vec<Named> {
         one("subclass ladder in the worst order", ladder()),
         one("merge-heavy: 511 fillers of one subject", merge_heavy(512, 256)),
         one("merge-deep: 255 merges in a row", merge_deep()),
+        one("joins: 255 in a row, each making the next", joins_in_a_row(256)),
+        one("joins: 511 individuals by 64 roles", joins_of_roles()),
         one("told-same: 16 blocks of 32", same_blocks()),
         one("told-same: one class of 512", same_class(512)),
         one("inverse web of 30 roles", inverse_web()),

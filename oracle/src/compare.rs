@@ -1,5 +1,5 @@
 //! Which rule of comparison a book falls under, and whether two answers agree by it. The rules are those of
-//! document 01, "Books for comparison".
+//! document 02, No. 10.
 
 use crate::book::{self, Book, Statement};
 use crate::ours::End;
@@ -9,16 +9,16 @@ use std::fmt::Debug;
 
 #[derive(Clone, Copy, PartialEq, Eq, Debug)]
 pub enum Rule {
-    /// Compared fully: no subject ends with two different fillers of a functional role.
-    OneFiller,
-    /// Compared fully: no SameIndividual, and no marker and no has-value edge is brought.
-    NothingBrought,
-    /// Compared partly: what the Rust has, ours must have too, unless ours clashes.
-    Other,
+    /// No told-same statement, and no subject ends with two different fillers of a functional role.
+    Fully,
+    /// All others: where ours finishes the Rust does, and what it has ours must have too.
+    Partly,
 }
 
+pub const RULES: [Rule; 2] = [Rule::Fully, Rule::Partly];
+
 pub enum Verdict {
-    Fully(Rule),
+    Fully,
     /// Agreed by the rule; `alike` if a full comparison would have passed as well.
     Partly {
         alike: bool,
@@ -45,7 +45,7 @@ fn without(book: &Book, kinds: &[u8]) -> Book {
 }
 
 /// Asked of the Rust itself, so that no answer of ours decides how it is judged. Without functional roles nothing is
-/// merged and the Rust's edges are those of the smallest sets. If these have one filler everywhere, they are also
+/// merged and, without told-same statements, the Rust's edges are those of the smallest sets. If these have one filler everywhere, they are also
 /// the smallest sets of the whole book; if not, the whole book has the two fillers as well.
 fn one_filler(book: &Book) -> bool {
     let functional = functional(book);
@@ -62,62 +62,12 @@ fn one_filler(book: &Book) -> bool {
     })
 }
 
-/// The Atomics whose individuals get a marker or a has-value edge.
-fn bringing(book: &Book) -> BTreeSet<u16> {
-    let brings = |side: u16| {
-        let (mut due, mut seen) = (vec![side], BTreeSet::new());
-        while let Some(c) = due.pop() {
-            let concept = &book.concepts[c as usize];
-            match concept.kind {
-                book::AND => due.extend(concept.fields.iter().filter(|&&part| seen.insert(part))),
-                book::SOME => {
-                    let filler = book.concepts[concept.fields[1] as usize].kind;
-                    if filler == book::NOMINAL || filler == book::ATOMIC && concept.fields[0].is_multiple_of(2) {
-                        return true;
-                    }
-                }
-                _ => {}
-            }
-        }
-        false
-    };
-    let mut out = BTreeSet::new();
-    for s in &book.statements {
-        if matches!(s.kind, book::SUB_CLASS | book::EQUIVALENT) && brings(s.fields[1]) {
-            out.extend(book.atomic(s.fields[0]));
-        }
-        if s.kind == book::EQUIVALENT && brings(s.fields[0]) {
-            out.extend(book.atomic(s.fields[1]));
-        }
-    }
-    out
-}
-
-/// Asked of the Rust itself: whether an individual has a class that brings something, by making each such class
-/// disjoint from itself. Up to the first such type nothing was brought, and there the Rust misses nothing.
-fn nothing_brought(book: &Book) -> bool {
-    if book.statements.iter().any(|s| s.kind == book::SAME) {
-        return false;
-    }
-    let bringing = bringing(book);
-    if bringing.is_empty() {
-        return true;
-    }
-    let mut probe = without(book, &[book::DISJOINT]);
-    for class in bringing {
-        let c = probe.concept(book::ATOMIC, &[class]);
-        probe.tell(book::DISJOINT, &[c, c]);
-    }
-    !rust::run(&probe).clash
-}
-
 pub fn rule(book: &Book) -> Rule {
-    if one_filler(book) {
-        Rule::OneFiller
-    } else if nothing_brought(book) {
-        Rule::NothingBrought
+    let told_same = book.statements.iter().any(|s| s.kind == book::SAME);
+    if !told_same && one_filler(book) {
+        Rule::Fully
     } else {
-        Rule::Other
+        Rule::Partly
     }
 }
 
@@ -149,7 +99,7 @@ pub fn fully(ours: &End, rust: &Answer) -> Result<(), String> {
     Ok(())
 }
 
-/// What the Rust has, ours has, unless ours clashes.
+/// Where ours finishes the Rust does, and what it has ours has.
 pub fn partly(ours: &End, rust: &Answer) -> Result<(), String> {
     if let End::Finished { edges, pairs, .. } = ours {
         equal("clash", false, rust.clash)?;
@@ -169,10 +119,10 @@ pub fn compare(book: &Book, ours: &End) -> Verdict {
     let answer = rust::run(book);
     let full = fully(ours, &answer);
     let rule = rule(book);
-    let judged = if rule == Rule::Other { partly(ours, &answer) } else { full.clone() };
+    let judged = if rule == Rule::Partly { partly(ours, &answer) } else { full.clone() };
     match (judged, rule) {
         (Err(why), _) => Verdict::Disagreement(format!("{why} ({rule:?})")),
-        (Ok(()), Rule::Other) => Verdict::Partly { alike: full.is_ok() },
-        (Ok(()), _) => Verdict::Fully(rule),
+        (Ok(()), Rule::Partly) => Verdict::Partly { alike: full.is_ok() },
+        (Ok(()), Rule::Fully) => Verdict::Fully,
     }
 }

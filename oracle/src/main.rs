@@ -22,7 +22,7 @@
 //!         runs our side on the recorded books and compares
 
 use oracle::book::Book;
-use oracle::compare::{self, compare, Rule, Verdict};
+use oracle::compare::{self, compare, Verdict, RULES};
 use oracle::generate;
 use oracle::ours::{Library, Server, Side};
 use oracle::profile::{Profile, PROFILES};
@@ -66,8 +66,7 @@ fn options(words: &[String]) -> Result<Options, String> {
 #[derive(Default, Clone)]
 struct Tally {
     books: u64,
-    one_filler: u64,
-    nothing_brought: u64,
+    fully: u64,
     partly: u64,
     alike: u64,
     not: u64,
@@ -78,14 +77,9 @@ struct Tally {
 }
 
 impl Tally {
-    fn fully(&self) -> u64 {
-        self.one_filler + self.nothing_brought
-    }
-
     fn add(&mut self, other: &Self) {
         self.books += other.books;
-        self.one_filler += other.one_filler;
-        self.nothing_brought += other.nothing_brought;
+        self.fully += other.fully;
         self.partly += other.partly;
         self.alike += other.alike;
         self.not += other.not;
@@ -103,8 +97,7 @@ impl Tally {
         self.turned += u64::from(rust::turns(book));
         self.signed += u64::from(book.statements.iter().any(|s| s.marked()));
         match compare(book, &ours) {
-            Verdict::Fully(Rule::OneFiller) => self.one_filler += 1,
-            Verdict::Fully(_) => self.nothing_brought += 1,
+            Verdict::Fully => self.fully += 1,
             Verdict::Partly { alike } => {
                 self.partly += 1;
                 self.alike += u64::from(alike);
@@ -123,7 +116,7 @@ impl Tally {
             "{} accepted books in {:.0} s: {} compared fully, {} partly, {} not; {} disagreements",
             self.books,
             start.elapsed().as_secs_f64(),
-            self.fully(),
+            self.fully,
             self.partly,
             self.not,
             self.disagreements
@@ -132,10 +125,9 @@ impl Tally {
 
     fn line(&self, name: &str) -> String {
         format!(
-            "{name:>8} {:>8} {:>10} {:>10} {:>8} {:>8} {:>6} {:>8} {:>6} {:>6} {:>6}",
+            "{name:>8} {:>8} {:>8} {:>8} {:>8} {:>6} {:>8} {:>6} {:>6} {:>6}",
             self.books,
-            self.one_filler,
-            self.nothing_brought,
+            self.fully,
             self.partly,
             self.alike,
             self.not,
@@ -159,10 +151,10 @@ fn show(book: &Book, why: &str, side: &mut dyn Side) {
 }
 
 fn print_head() {
-    println!("         {:>8} {:>21} {:>17}", "", "compared fully", "compared partly");
+    println!("         {:>8} {:>26}", "", "compared");
     println!(
-        " profile {:>8} {:>10} {:>10} {:>8} {:>8} {:>6} {:>8} {:>6} {:>6} {:>6}",
-        "books", "one filler", "no bring", "", "alike", "not", "clashes", "turned", "signed", "disagr"
+        " profile {:>8} {:>8} {:>8} {:>8} {:>6} {:>8} {:>6} {:>6} {:>6}",
+        "books", "fully", "partly", "alike", "not", "clashes", "turned", "signed", "disagr"
     );
 }
 
@@ -247,7 +239,7 @@ fn run_record(file: &str) -> Result<ExitCode, String> {
     let data: Vec<u8> = records.iter().flat_map(Record::bytes).collect();
     std::fs::write(file, &data).map_err(|e| format!("{file}: {e}"))?;
     println!("{} records, {} bytes", records.len(), data.len());
-    for rule in [Rule::OneFiller, Rule::NothingBrought, Rule::Other] {
+    for rule in RULES {
         let of_rule = || records.iter().filter(|r| r.rule == rule);
         let clashes = of_rule().filter(|r| r.answer.clash).count();
         println!("{rule:?}: {} finished, {clashes} clash", of_rule().count() - clashes);

@@ -1,7 +1,7 @@
 //! The fixed list of the Rust's answers, for a replay that needs no Rust. README.md gives the layout of the file.
 
 use crate::book::{self, Book, Sort};
-use crate::compare::{fully, partly, rule, Rule};
+use crate::compare::{fully, partly, rule, Rule, RULES};
 use crate::generate;
 use crate::ours::End;
 use crate::profile::{Profile, PROFILES};
@@ -33,7 +33,7 @@ pub struct Record {
 /// The Rust's answer, or, where it depends on the run, all that came in some run.
 pub fn answer(book: &Book, rule: Rule) -> Answer {
     let mut all = rust::run(book);
-    for _ in 1..if rule == Rule::Other { RUNS } else { 1 } {
+    for _ in 1..if rule == Rule::Partly { RUNS } else { 1 } {
         let next = rust::run(book);
         all.clash |= next.clash;
         all.edges.extend(next.edges);
@@ -47,7 +47,7 @@ pub fn answer(book: &Book, rule: Rule) -> Answer {
     all.pairs.sort_unstable();
     all.pairs.dedup();
     // counts are compared under the full rules alone, and not beside a clash
-    if all.clash || rule == Rule::Other {
+    if all.clash || rule == Rule::Partly {
         (all.types, all.edge_additions) = (0, 0);
     }
     all
@@ -56,7 +56,7 @@ pub fn answer(book: &Book, rule: Rule) -> Answer {
 /// Whether a run stays within the program's lists, whatever the Rust misses.
 fn fits(book: &Book, rule: Rule) -> bool {
     let individuals = book.counts[book::INDIVIDUALS];
-    if rule == Rule::Other {
+    if rule == Rule::Partly {
         return book.bound() <= BUDGET && individuals * individuals.saturating_sub(1) / 2 <= PAIRS;
     }
     let mut open = book.clone();
@@ -88,7 +88,7 @@ fn fixed(line: &str) -> Record {
 pub fn records() -> Vec<Record> {
     let mut out: Vec<Record> = FIXED.lines().filter(|line| !line.starts_with('#')).map(fixed).collect();
     for profile in PROFILES {
-        let mut found = [[0; 2]; 3];
+        let mut found = [[0; 2]; 2];
         for place in 0..SEARCHED {
             let mut book = generate::book(profile, SEED, place).shared();
             if profile == Profile::Limits {
@@ -105,7 +105,7 @@ pub fn records() -> Vec<Record> {
             let record = record(&book, rule);
             found[rule as usize][usize::from(record.answer.clash)] += 1;
             out.push(record);
-            if found == [[EACH; 2]; 3] {
+            if found == [[EACH; 2]; 2] {
                 break;
             }
         }
@@ -117,7 +117,7 @@ impl Record {
     pub fn bytes(&self) -> Vec<u8> {
         let Answer { clash, types, edge_additions, edges, pairs } = &self.answer;
         assert!(
-            self.rule == Rule::Other || *edge_additions == edges.len() as u64,
+            self.rule == Rule::Partly || *edge_additions == edges.len() as u64,
             "the edge count is that of the list"
         );
         let head =
@@ -146,7 +146,7 @@ impl Record {
             edges: (0..edges).map(edge).collect::<Option<_>>()?,
             pairs: (0..pairs).map(pair).collect::<Option<_>>()?,
         };
-        let rule = *[Rule::OneFiller, Rule::NothingBrought, Rule::Other].get(rule.checked_sub(1)?)?;
+        let rule = *RULES.get(rule.checked_sub(1)?)?;
         Some((Self { book: data.get(12..from)?.to_vec(), rule, answer }, data.get(behind + 4 * pairs..)?))
     }
 
@@ -154,7 +154,7 @@ impl Record {
     pub fn agrees(&self, ours: &End) -> Result<(), String> {
         match ours {
             End::Spent | End::Refused(_) => Err(format!("ours: {ours}")),
-            _ if self.rule == Rule::Other => partly(ours, &self.answer),
+            _ if self.rule == Rule::Partly => partly(ours, &self.answer),
             _ => fully(ours, &self.answer),
         }
     }

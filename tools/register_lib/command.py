@@ -84,7 +84,7 @@ For a reader or a day the proved library draws the conclusions, with the budget 
 ASKED = SYNTAXES + f'''
 INDIVIDUAL and EXPRESSION are written as in the register, with its prefixes, such as
   tools/register is examples/plates.ofn :serial_412 'ObjectSomeValuesFrom(:readAgainst :ReferenceBar)'
-Shown are: owl:Thing; a class that is concluded; ObjectOneOf of one that is told to be the same, or of itself; ObjectHasSelf and
+Shown are: owl:Thing; a class that is concluded; ObjectOneOf of one that is told or found to be the same, or of itself; ObjectHasSelf and
 ObjectSomeValuesFrom by the edges that are concluded; an intersection of which every part is shown, a union of which some
 part is. Nothing else is ever shown. What is shown holds in every world that fits the register. What is not shown may hold
 all the same, unless the register is plain and the expression is made of those kinds alone: then it is false in some world
@@ -256,10 +256,13 @@ def explain(args):
 def listed_rows(data):
     """The rows of all that a register concludes, and of its clash, by the library."""
     budget = min(library.figure(data)[1], library.MOST_BUDGET)
-    got = library.saturate_rows(data, budget, 2 * budget, 3 * budget, why.derivation.WIDTH * (budget + 1))
+    individuals, width = f.read(data).counts[f.INDIVIDUALS], why.derivation.WIDTH
+    got = library.saturate_rows(data, budget, 2 * budget, 3 * budget, width * (budget + individuals * (individuals - 1) // 2 + 1))
     if got.end not in (library.FINISHED, library.CLASH):
         raise Stop(conclusions.SPENT, f'spent: the conclusions have more types and edges than the budget of {budget:,}')
-    return got.pairs[:why.derivation.WIDTH * (got.type_count + got.edge_count + (got.end == library.CLASH))]
+    # every row has a rule, and behind the last there are 0s
+    rules = got.pairs[::width]
+    return got.pairs[:width * (rules.index(0) if 0 in rules else len(rules))]
 
 
 def conclude(args):
@@ -446,7 +449,7 @@ def arguments():
     made.add_argument('--readers', metavar='FILE.readers', help='who may read which workshop; FILE with .readers in place of its ending else')
     made.add_argument('--budget', metavar='N', type=budget, help='a budget of N facts, up to 1000000')
     made = command('why', explain, 'tells why FILE concludes a fact, or, without one, why it clashes', EXPLAINED)
-    made.add_argument('fact', metavar='FACT', nargs='?', help="such as 'ClassAssertion(:Class :individual)' or 'ObjectPropertyAssertion(:role :first :second)'")
+    made.add_argument('fact', metavar='FACT', nargs='?', help="such as 'ClassAssertion(:Class :individual)', 'ObjectPropertyAssertion(:role :first :second)' or 'SameIndividual(:first :second)'")
     made.add_argument('--svg', metavar='OUT.svg', help='draw the same steps as a picture')
     made = command('conclude', conclude, 'packs FILE, runs the book and prints what it concludes, told and derived apart', CONCLUDED)
     made.add_argument('--reader', metavar='NAME', help='conclude what this reader may read')

@@ -81,8 +81,6 @@ def is_plain(book, kind, v):
     def simple(c):
         kind, fields = book.concepts[c]
         return kind in (f.ATOMIC, f.TOP) or kind == f.SOME and book.concepts[fields[1]][0] == f.NOMINAL
-    if kind in (f.FUNCTIONAL, f.INVERSE_FUNCTIONAL):
-        return False
     if kind == f.SUB_CLASS:
         return atomic(v[0]) and all(map(simple, leaves(book, v[1])))
     if kind in (f.EQUIVALENT, f.DISJOINT):

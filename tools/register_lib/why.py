@@ -13,9 +13,11 @@ from .tokens import Fault
 
 RULES = {
     1: 'told', 2: 'a class is under another, or equivalent', 3: 'a role is the inverse of another, or symmetric',
-    4: 'a role is above a path of roles, or transitive', 5: 'domain or range of a role', 6: 'told to be the same individual',
-    7: 'fillers of a functional role share their classes', 8: 'classes that nothing can have both',
+    4: 'a role is above a path of roles, or transitive', 5: 'domain or range of a role', 6: 'one individual under two names',
+    7: 'fillers of a functional role are one individual', 8: 'classes that nothing can have both',
 }
+
+TOLD = 'told to be the same individual'
 
 # its number among those shown, the fact as an axiom, the rule in words, the numbers of the steps that it rests on, and the
 # register's axioms that it used, as (line, axiom)
@@ -42,7 +44,12 @@ def wanted(text, packer):
         if isinstance(role, Node) and role.word == 'ObjectInverseOf' and len(role.args) == 1:
             role, a, b = role.args[0], b, a
         return ('e', number(f.ROLES, role, 'a role'), *(number(f.INDIVIDUALS, x, 'an individual') for x in (a, b)))
-    raise Fault('a fact is ClassAssertion(:Class :individual) or ObjectPropertyAssertion(:role :first :second)')
+    if node and node.word == 'SameIndividual' and len(node.args) == 2:
+        a, b = sorted(number(f.INDIVIDUALS, x, 'an individual') for x in node.args)
+        if a == b:
+            raise Fault('each individual is the same as itself')
+        return 'p', a, b
+    raise Fault('a fact is ClassAssertion(:Class :individual), ObjectPropertyAssertion(:role :first :second) or SameIndividual(:first :second)')
 
 
 def resting(rows, last):
@@ -57,7 +64,7 @@ def resting(rows, last):
 
 
 def linked(book, a, b):
-    """The told-same statements, one after the other, that make two individuals one."""
+    """The told-same statements, one after the other, that make two individuals one; None where none do."""
     ways, waiting = {a: []}, [a]
     for x in waiting:
         for k, (kind, _, pair) in enumerate(book.statements):
@@ -65,7 +72,7 @@ def linked(book, a, b):
                 if y not in ways:
                     ways[y] = ways[x] + [k]
                     waiting.append(y)
-    return ways[b]
+    return ways.get(b)
 
 
 def clashing(book, facts):
@@ -90,18 +97,37 @@ def clashing(book, facts):
     return kept
 
 
+def changed(before, claim):
+    """The individuals of a fact beside those of another that has the same class, or role; None where it has not."""
+    same = before[0] == claim[0] and (before[2] == claim[2] if claim[0] == 't' else before[1] == claim[1])
+    return same and list(zip(before[1:2], claim[1:2]) if claim[0] == 't' else zip(before[2:], claim[2:]))
+
+
 def used(book, checker, rows, k):
     """The numbers of the statements that row k used."""
     rule, statement, *earlier = rows[k][:5]
     facts = [checker.claim(rows[x]) for x in earlier if x != derivation.NONE]
     if rule == 6:
         claim = checker.claim(rows[k])
-        before = next(x for x in facts if checker.shares(x, claim))
-        pairs = zip(before[1:2], claim[1:2]) if claim[0] == 't' else zip(before[2:], claim[2:])
-        return list(dict.fromkeys(n for a, b in pairs for n in linked(book, a, b)))
+
+        def told(a, b):
+            """The statements by which one is the other; none for one by its joining, None where it is neither."""
+            return [] if ('p', *sorted((a, b))) in facts else linked(book, a, b)
+        ways = ([told(a, b) for a, b in pairs] for pairs in (changed(x, claim) for x in facts if x[0] != 'p') if pairs)
+        return list(dict.fromkeys(n for way in next(way for way in ways if None not in way) for n in way))
     if rule == 8:
         return clashing(book, set(facts))
     return [statement]
+
+
+def written(names, claim):
+    """What is claimed, as an axiom."""
+    if claim == 'clash':
+        return 'no world fits'
+    if claim[0] == 't':
+        return f'ClassAssertion({names.of(f.CLASSES, claim[2])} {names.of(f.INDIVIDUALS, claim[1])})'
+    ends = ' '.join(names.of(f.INDIVIDUALS, x) for x in claim[-2:])
+    return f'SameIndividual({ends})' if claim[0] == 'p' else f'ObjectPropertyAssertion({names.of(f.ROLES, claim[1])} {ends})'
 
 
 def steps(packer, source, data, entries, fact=None):
@@ -110,23 +136,16 @@ def steps(packer, source, data, entries, fact=None):
     writer, checker = Writer(book, names), derivation.Checker(book)
     rows = [entries[i:i + derivation.WIDTH] for i in range(0, len(entries), derivation.WIDTH)]
     claims = [checker.claim(row) for row in rows]
-    if (fact or 'clash') not in claims:
-        return None
-    chosen = resting(rows, claims.index(fact or 'clash'))
-    number = {k: n for n, k in enumerate(chosen, 1)}
 
     def axiom(k):
         line = place(source.text, packer.places[k])[0]
         return line, writer.statement(*book.statements[k], book.marks[k])
-
-    def written(claim):
-        if claim == 'clash':
-            return 'no world fits'
-        if claim[0] == 't':
-            return f'ClassAssertion({names.of(f.CLASSES, claim[2])} {names.of(f.INDIVIDUALS, claim[1])})'
-        ends = ' '.join(names.of(f.INDIVIDUALS, x) for x in claim[2:])
-        return f'ObjectPropertyAssertion({names.of(f.ROLES, claim[1])} {ends})'
-    return [Step(number[k], written(claims[k]), RULES[rows[k][0]],
+    if (fact or 'clash') not in claims:
+        way = linked(book, *fact[1:]) if fact and fact[0] == 'p' else None
+        return way and [Step(1, written(names, fact), TOLD, [], [axiom(k) for k in way])]
+    chosen = resting(rows, claims.index(fact or 'clash'))
+    number = {k: n for n, k in enumerate(chosen, 1)}
+    return [Step(number[k], written(names, claims[k]), RULES[rows[k][0]],
                  sorted({number[x] for x in rows[k][2:5] if x != derivation.NONE}), [axiom(n) for n in used(book, checker, rows, k)])
             for k in chosen]
 

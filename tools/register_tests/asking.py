@@ -58,7 +58,7 @@ class Asking(FileCase):
     def test_not_plain(self):
         """Each kind of statement that no plain book has, and the nearest that one has."""
         for statement, plain in (
-                ('FunctionalObjectProperty(:p)', False), ('InverseFunctionalObjectProperty(:p)', False), ('SubClassOf(ObjectUnionOf(:A :B) :C)', False),
+                ('FunctionalObjectProperty(:p)', True), ('InverseFunctionalObjectProperty(:p)', True), ('SubClassOf(ObjectUnionOf(:A :B) :C)', False),
                 ('SubClassOf(:C ObjectSomeValuesFrom(:p :A))', False), ('SubClassOf(:C ObjectIntersectionOf(:A ObjectIntersectionOf(:B ObjectHasValue(:p :a))))', True),
                 ('EquivalentClasses(:A owl:Thing)', False), ('EquivalentClasses(:C :B)', True), ('DisjointClasses(:C owl:Thing)', False),
                 ('ObjectPropertyDomain(:q ObjectHasValue(:p :a))', False), ('ObjectPropertyRange(ObjectInverseOf(:q) ObjectIntersectionOf(:A :B))', True),

@@ -12,19 +12,24 @@ from register_lib import command, conclusions, library
 from .common import EXAMPLES, HEAD, PROGRAM, ROOT, STAND_IN, WORKED, FileCase, packed, register, some_book
 
 STATUS = {'clash': conclusions.CLASH, 'sessions': conclusions.CLASH}  # of an example; finished where it is not listed
-WORKED_OUTPUT = '''finished 3 8 2
+WORKED_OUTPUT = '''finished 3 12 3
 t 1 0
 t 2 0
 t 4 0
 e 0 0 1
 e 0 0 2
+e 0 0 4
+e 1 3 1
 e 1 3 2
 e 1 3 4
+e 2 5 1
+e 2 5 2
 e 2 5 4
 e 3 1 6
 e 3 2 6
 e 3 4 6
 s 1 2
+s 1 4
 s 2 4
 '''
 

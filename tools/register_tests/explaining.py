@@ -42,7 +42,7 @@ class Steps(unittest.TestCase):
         text = HEAD + CLASH_STEPS + ')'
         last = steps(text)[-1]
         self.assertEqual((last.fact, [line for line, _ in last.axioms]), ('no world fits', [4]))
-        shared = next(step for step in steps(text) if 'same' in step.rule)
+        shared = next(step for step in steps(text) if 'two names' in step.rule)
         self.assertEqual(shared.axioms, [(5, 'SameIndividual(:x :y)')])
 
     def test_told_facts_have_their_line(self):
@@ -52,6 +52,13 @@ class Steps(unittest.TestCase):
     def test_an_inverse_is_turned(self):
         found = steps(HEAD + 'ObjectPropertyAssertion(:p :x :y)\n)', 'ObjectPropertyAssertion(ObjectInverseOf(:p) :y :x)')
         self.assertEqual(found[0].fact, 'ObjectPropertyAssertion(:p :x :y)')
+
+    def test_why_two_are_one(self):
+        found = steps(PLATES.read_text(), 'SameIndividual(:serial_412 :top_of_billet_17)')
+        self.assertEqual(found[-1].fact, 'SameIndividual(:top_of_billet_17 :serial_412)')
+        self.assertEqual(len(found[-1].premises), 2)
+        told = steps(HEAD + 'SameIndividual(:x :y)\nSameIndividual(:z :y)\n)', 'SameIndividual(:z :x)')
+        self.assertEqual([(step.fact, [line for line, _ in step.axioms]) for step in told], [('SameIndividual(:x :z)', [3, 4])])
 
     def test_what_is_not_concluded(self):
         self.assertIsNone(steps(HEAD + 'ClassAssertion(:A :x)\nClassAssertion(:B :y)\n)', 'ClassAssertion(:B :x)'))

@@ -27,7 +27,7 @@ use Rattle.book.proofs.Accepted.{accepted-limits, accepted-axioms, accepted-wit
 use Rattle.rules.specs.Brought.{concept, atomicOf, markers}
 use Rattle.rules.specs.Clash.{Mark, bringMarks, marksBy, marks}
 use Rattle.rules.proofs.Tests.{every-append, every-from, every-all}
-use Rattle.saturation.proofs.Sides.{class-low, disjoint-low}
+use Rattle.tables.proofs.Sides.{class-low, disjoint-low}
 use Rattle.derivation.specs.Rows.{none, rowAt, Claim, fact, clash, nothing, claim, saysRow, named, earlier, numberOf, premisesOf}
 use Rattle.derivation.specs.Accept.{byStatement, bySharing, byClash, follows, claimAt, accepts, statements, ruleNumber, member}
 use Rattle.derivation.proofs.Judging.{Low, statement-tried, sharing-tried}

@@ -10,10 +10,11 @@ use Rattle.book.specs.Header.{Limits}
 use Rattle.book.specs.Read.{pick}
 use Rattle.book.specs.declared.header.Counts.{Counts}
 use Rattle.book.specs.declared.role.Role.the-variants.{Named}
-use Rattle.rules.specs.Fact.{edge, type}
+use Rattle.rules.specs.Fact.{edge, type, pair}
 use Rattle.rules.proofs.Tests.{and-both}
+use Rattle.rules.proofs.Facts.{pair-lt}
 use Rattle.derivation.specs.declared.row.Row.{Row}
-use Rattle.derivation.specs.Rows.{none, rowAt, Claim, fact, clash, nothing, typeClaim, edgeClaim, clashClaim, claim, saysRow, factIn, numberOf, before, earlier}
+use Rattle.derivation.specs.Rows.{none, rowAt, Claim, fact, clash, nothing, typeClaim, edgeClaim, clashClaim, pairClaim, claim, saysRow, factIn, numberOf, before, earlier}
 use Rattle.derivation.proofs.Fitting.{edge-low, type-low}
 use Rattle.derivation.proofs.Judging.{Low}
 
@@ -46,6 +47,18 @@ module _ (h : Counts) (r : Row) where
   pub edge-first : h .roles ≤ r .one → none ≡ numberOf (edgeClaim h r)
   edge-first i = rw (le-ltb (r .one) _ i) refl
 
+  pub pair-yes : (y : ℕ) → r .one < r .two → r .two < h .individuals → r .three ≡ none → y ≡ pair (r .one) (r .two) → y ≡ numberOf (pairClaim h r)
+  pair-yes y i j k e = rw (lt-ltb (r .one) (r .two) i, lt-ltb (r .two) _ j, eq-eqb (r .three) none k) e
+
+  pub pair-third : r .one < r .two → r .two < h .individuals → (r .three ≡ none → ⊥) → none ≡ numberOf (pairClaim h r)
+  pair-third i j k = rw (lt-ltb (r .one) (r .two) i, lt-ltb (r .two) _ j, ne-eqb (r .three) none k) refl
+
+  pub pair-second : r .one < r .two → h .individuals ≤ r .two → none ≡ numberOf (pairClaim h r)
+  pair-second i j = rw (lt-ltb (r .one) (r .two) i, le-ltb (r .two) _ j) refl
+
+  pub pair-first : r .two ≤ r .one → none ≡ numberOf (pairClaim h r)
+  pair-first i = rw (le-ltb (r .one) (r .two) i) refl
+
   pub claim-type : (y : ℕ) → r .kind ≡ 0 → y ≡ numberOf (typeClaim h r) → y ≡ numberOf (claim h r)
   unfolding claim
   claim-type y i e = rw (eq-eqb (r .kind) 0 i) e
@@ -58,17 +71,26 @@ module _ (h : Counts) (r : Row) where
   unfolding claim
   claim-clash y i j k e = rw (ne-eqb (r .kind) 0 i, ne-eqb (r .kind) 1 j, eq-eqb (r .kind) 2 k) e
 
-  pub claim-none : (r .kind ≡ 0 → ⊥) → (r .kind ≡ 1 → ⊥) → (r .kind ≡ 2 → ⊥) → none ≡ numberOf (claim h r)
+  pub claim-pair : (y : ℕ) → (r .kind ≡ 0 → ⊥) → (r .kind ≡ 1 → ⊥) → (r .kind ≡ 2 → ⊥) → r .kind ≡ 3 → y ≡ numberOf (pairClaim h r)
+      → y ≡ numberOf (claim h r)
   unfolding claim
-  claim-none i j k = rw (ne-eqb (r .kind) 0 i, ne-eqb (r .kind) 1 j, ne-eqb (r .kind) 2 k) refl
+  claim-pair y i j k l e = rw (ne-eqb (r .kind) 0 i, ne-eqb (r .kind) 1 j, ne-eqb (r .kind) 2 k, eq-eqb (r .kind) 3 l) e
+
+  pub claim-none : (r .kind ≡ 0 → ⊥) → (r .kind ≡ 1 → ⊥) → (r .kind ≡ 2 → ⊥) → (r .kind ≡ 3 → ⊥) → none ≡ numberOf (claim h r)
+  unfolding claim
+  claim-none i j k l = rw (ne-eqb (r .kind) 0 i, ne-eqb (r .kind) 1 j, ne-eqb (r .kind) 2 k, ne-eqb (r .kind) 3 l) refl
 
   -- what is claimed is below `none`
   pub claim-low : Limits h → Low (claim h r)
   unfolding claim
-  claim-low top = kinds (eqb (r .kind) 0) (eqb (r .kind) 1) (eqb (r .kind) 2)
+  claim-low top = kinds (eqb (r .kind) 0) (eqb (r .kind) 1) (eqb (r .kind) 2) (eqb (r .kind) 3)
     where
       types : (a b c : Bool) → ltb (r .one) (h .individuals) ≡ a → ltb (r .two) (h .classes) ≡ b → Low (pick (a && (b && c)) (fact (type (r .one) (r .two))) nothing)
-      types true true true i j = let m = ltb-true (r .one) _ i in let n = ltb-true (r .two) _ j in type-low (r .one) (r .two) (omega (arith, top .individuals-top)) (omega (arith, top .classes-top))
+      types true true true i j =
+          let m = ltb-true (r .one) _ i in
+          let n = ltb-true (r .two) _ j in
+          let z = type-low (r .one) (r .two) (omega (arith, top .individuals-top)) (omega (arith, top .classes-top)) in
+          omega arith
       types true true false i j = tt
       types true false c i j = tt
       types false b c i j = tt
@@ -90,11 +112,21 @@ module _ (h : Counts) (r : Row) where
       clashing true false c = tt
       clashing false b c = tt
 
-      kinds : (a b c : Bool) → Low (pick a (typeClaim h r) (pick b (edgeClaim h r) (pick c (clashClaim r) nothing)))
-      kinds true b c = types (ltb (r .one) (h .individuals)) (ltb (r .two) (h .classes)) (eqb (r .three) none) refl refl
-      kinds false true c = edges (ltb (r .one) (h .roles)) (ltb (r .two) (h .individuals)) (ltb (r .three) (h .individuals)) refl refl refl
-      kinds false false true = clashing (eqb (r .one) none) (eqb (r .two) none) (eqb (r .three) none)
-      kinds false false false = tt
+      joinings : (a b c : Bool) → ltb (r .one) (r .two) ≡ a → ltb (r .two) (h .individuals) ≡ b → Low (pick (a && (b && c)) (fact (pair (r .one) (r .two))) nothing)
+      joinings true true true i j =
+          let m = ltb-true (r .one) (r .two) i in
+          let n = ltb-true (r .two) _ j in
+          pair-lt (r .one) (r .two) (omega (arith, top .individuals-top)) (omega (arith, top .individuals-top))
+      joinings true true false i j = tt
+      joinings true false c i j = tt
+      joinings false b c i j = tt
+
+      kinds : (a b c d : Bool) → Low (pick a (typeClaim h r) (pick b (edgeClaim h r) (pick c (clashClaim r) (pick d (pairClaim h r) nothing))))
+      kinds true b c d = types (ltb (r .one) (h .individuals)) (ltb (r .two) (h .classes)) (eqb (r .three) none) refl refl
+      kinds false true c d = edges (ltb (r .one) (h .roles)) (ltb (r .two) (h .individuals)) (ltb (r .three) (h .individuals)) refl refl refl
+      kinds false false true d = clashing (eqb (r .one) none) (eqb (r .two) none) (eqb (r .three) none)
+      kinds false false false true = joinings (ltb (r .one) (r .two)) (ltb (r .two) (h .individuals)) (eqb (r .three) none) refl refl
+      kinds false false false false = tt
 
 module _ (r : Row) where
   pub clash-yes : r .one ≡ none → r .two ≡ none → r .three ≡ none → _≡_ {A = ℕ} 4294967294 (numberOf (clashClaim r))

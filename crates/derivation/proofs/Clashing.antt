@@ -16,9 +16,9 @@ use Rattle.rules.specs.Fact.{type, Two as Pair}
 use Rattle.rules.specs.Rule.{Set, some}
 use Rattle.rules.specs.Same.{functional}
 use Rattle.rules.specs.Clash.{disjoint, Mark, marks, marked, typeClash, bothMarked, markerClash, clashes}
-use Rattle.rules.proofs.Tests.{false-true, or-cases, or-left, or-right, and-both, and-intro, any-some, some-any, every-all}
-use Rattle.saturation.proofs.Members.{both-ways, Member, member, some-map}
-use Rattle.saturation.proofs.Sides.{PairLow}
+use Rattle.rules.proofs.Tests.{false-true, both-ways, or-cases, or-left, or-right, and-both, and-intro, any-some, some-any, every-all}
+use Rattle.tables.proofs.Members.{Member, member, some-map}
+use Rattle.tables.proofs.Sides.{PairLow}
 use Rattle.derivation.specs.Rows.{none, Claim, oneOf, factIn}
 use Rattle.derivation.specs.Fits.{bearer, classIn, bringsMark, bothBring, pairClash, clashFits, oneOfThree, anyTwo}
 use Rattle.derivation.proofs.Fitting.{type-bearer, type-class, type-low}

@@ -2,7 +2,7 @@
 use Prim.Native.Nat.{ℕ, _<_, _≤_}
 use native.Mathlib.Omega.{arith}
 use mathlib.Core.Path.{_≡_, refl, ap, sym, _∙_, subst}
-use mathlib.Core.Bool.{Bool, true, not, _&&_}
+use mathlib.Core.Bool.{Bool, true, _&&_}
 use mathlib.Core.List.{List, [], _∷_}
 use mathlib.Core.Logic.{inl, inr, ⊎-elim}
 use lib.Dec.{eqb, ltb}
@@ -19,16 +19,16 @@ use Rattle.book.specs.declared.statement.SubRolePath.{SubRolePath}
 use Rattle.book.specs.declared.statement.SubRolePath.the-variants.{One, Two, Three}
 use Rattle.book.specs.declared.statement.Axiom.{Axiom}
 use Rattle.book.specs.declared.statement.Axiom.the-variants.{SubClassOf, EquivalentClasses, DisjointClasses, InverseObjectProperties, SubObjectPropertyOf, TransitiveRole, SymmetricRole, FunctionalRole, InverseFunctionalRole, ObjectPropertyDomain, ObjectPropertyRange, SameIndividual, ClassAssertion, ObjectPropertyAssertion}
-use Rattle.rules.specs.Fact.{edge, type}
+use Rattle.rules.specs.Fact.{edge, type, pair}
 use Rattle.rules.specs.Rule.{Rule, keep, when, each, every, some}
 use Rattle.rules.specs.Brought.{concept, Value, atomicOf, atomics, values}
 use Rattle.rules.specs.Meaning.{told, bring, swap, path1, path2, path3, under, domain, range}
 use Rattle.rules.proofs.Tests.{false-true, or-cases, or-left, or-right, and-both, and-intro}
 use Rattle.rules.proofs.Facts.{flipped-id}
-use Rattle.saturation.proofs.Members.{some-and}
+use Rattle.tables.proofs.Members.{some-and}
 use Rattle.derivation.specs.Rows.{none}
-use Rattle.derivation.specs.Accept.{mergeOther, useOf}
-use Rattle.derivation.specs.Fits.{leadsFrom, leadsTo, bearer, classIn, isEdge, classFits, valueFits, toldFits, bringFits, swapFits, oneFits, twoFits, threeFits, pathFits, PathLow, domainFits, rangeFits, mergeFits, fits}
+use Rattle.derivation.specs.Accept.{joinOther, useOf}
+use Rattle.derivation.specs.Fits.{leadsFrom, leadsTo, bearer, classIn, isEdge, classFits, valueFits, toldFits, bringFits, swapFits, oneFits, twoFits, threeFits, pathFits, PathLow, domainFits, rangeFits, joinFits, fits}
 use Rattle.derivation.proofs.Uses.{Orders, orders-given, given-orders}
 
 -- ---- numbers of facts
@@ -268,21 +268,16 @@ module _ (n : ℕ) (few : n ≤ 512) where
 
     -- ---- rule 7
 
-    merge-orders : (m : ℕ) (r : Role) → m ≤ 256 → roleId r < 64 → mergeFits n m r f g h k ≡ true → Orders f (mergeOther n m r) gs
-    unfolding mergeFits
-    merge-orders m r top l e =
+    join-orders : (r : Role) → roleId r < 64 → joinFits n r f g h ≡ true → Orders f (joinOther n r) gs
+    unfolding joinFits
+    join-orders r l e =
         let a = and-both (isEdge n r g) _ e in
         let b = and-both (isEdge n r h) _ (a .1) in
         let c = and-both (eqb (leadsFrom r g) (leadsFrom r h)) _ (b .1) in
-        let d = and-both (not (eqb (leadsTo r g) (leadsTo r h))) _ (c .1) in
-        let x = and-both (ltb (classIn k) m) _ (d .1) in
-        let y = and-both (eqb k (type (leadsTo r g) (classIn k))) _ (x .1) in
+        let d = and-both (ltb (leadsTo r g) (leadsTo r h)) _ (c .1) in
         let i = is-edge r g l (a .0) in
         let j = is-edge r h l (b .0) in
-        let q = eqb-true (leadsFrom r g) (leadsFrom r h) (c .0) in
-        let w = eqb-true k _ (y .0) in
-        let z = ltb-true (classIn k) m (x .0) in
-        let o = type-low (leadsTo r g) (classIn k) (omega (arith, i .to-low)) (omega arith) in (
+        let q = eqb-true (leadsFrom r g) (leadsFrom r h) (c .0) in (
           leadsFrom r g,
           i .from-low,
           (
@@ -297,23 +292,21 @@ module _ (n : ℕ) (few : n ≤ 512) where
                 (
                   j .low,
                   subst (λ (x : ℕ). h ≡ edge r x (leadsTo r h)) (sym q) (j .is),
-                  given-orders f (not (eqb (leadsTo r g) (leadsTo r h))) _ (k ∷ []) (d .0) (classIn k, z, (omega arith, w, eqb-true f _ (y .1))),
+                  given-orders f (ltb (leadsTo r g) (leadsTo r h)) _ (k ∷ []) (d .0) (eqb-true f _ (d .1)),
                 ),
               ),
             ),
           ),
         )
 
-    orders-merge : (m : ℕ) (r : Role) → m ≤ 256 → Orders f (mergeOther n m r) gs → mergeFits n m r f g h k ≡ true
-    unfolding mergeFits
-    orders-merge m r top (a, i, (b, j, (low, q, (c, l, (lower, p, u))))) =
-        let w = orders-given f (not (eqb b c)) (each m λ d. when (type b d) (keep (type c d))) (k ∷ []) u in
+    orders-join : (r : Role) → Orders f (joinOther n r) gs → joinFits n r f g h ≡ true
+    unfolding joinFits
+    orders-join r (a, i, (b, j, (low, q, (c, l, (lower, p, u))))) =
+        let w = orders-given f (ltb b c) (keep (pair b c)) (k ∷ []) u in
         let x = edge-is r g a b i j q in
         let y = edge-is r h a c i l p in
-        let d = w .1 in
-        let e = d .2 in
-        let z : classIn k ≡ d .0 = ap classIn (e .1) ∙ type-class b (d .0) (omega (arith, d .1)) in
-        and-intro _ _ (x .0) (and-intro _ _ (y .0) (rw (x .1, x .2, y .1, y .2, z) (and-intro _ _ (eq-eqb a a refl) (and-intro _ _ (w .0) (and-intro _ _ (lt-ltb (d .0) m (d .1)) (and-intro _ _ (eq-eqb k (type b (d .0)) (e .1)) (eq-eqb f (type c (d .0)) (e .2))))))))
+        and-intro _ _ (x .0) (and-intro _ _ (y .0) (rw (x .1, x .2, y .1, y .2)
+        (and-intro _ _ (eq-eqb a a refl) (and-intro _ _ (w .0) (eq-eqb f (pair b c) (w .1))))))
 
 -- ---- a statement
 
@@ -356,8 +349,8 @@ module _ (B : Book) (top : Limits (B .counts)) (low : (c : ℕ) → Every (λ x.
   fits-orders (SubObjectPropertyOf p t) w e = path-orders p t (w .0) e
   fits-orders (TransitiveRole r) w e = two-orders n (top .individuals-top) f g h k r r r (role-low r w) (role-low r w) e
   fits-orders (SymmetricRole r) w e = swap-orders n (top .individuals-top) f g h k r r (role-low r w) e
-  fits-orders (FunctionalRole r) w e = merge-orders n (top .individuals-top) f g h k (B .counts .classes) r (top .classes-top) (role-low r w) e
-  fits-orders (InverseFunctionalRole r) w e = merge-orders n (top .individuals-top) f g h k (B .counts .classes) (flipped r) (top .classes-top) (rw (flipped-id r) (role-low r w)) e
+  fits-orders (FunctionalRole r) w e = join-orders n (top .individuals-top) f g h k r (role-low r w) e
+  fits-orders (InverseFunctionalRole r) w e = join-orders n (top .individuals-top) f g h k (flipped r) (rw (flipped-id r) (role-low r w)) e
   fits-orders (ObjectPropertyDomain r c) w e = domain-orders n (top .individuals-top) f g h k r (concept B c) (role-low r (w .0)) e
   fits-orders (ObjectPropertyRange r c) w e = range-orders n (top .individuals-top) f g h k r (concept B c) (role-low r (w .0)) e
   fits-orders (SameIndividual a b) w e = false-true e
@@ -381,8 +374,8 @@ module _ (B : Book) (top : Limits (B .counts)) (low : (c : ℕ) → Every (λ x.
   orders-fits (SubObjectPropertyOf p t) u = orders-path p t u
   orders-fits (TransitiveRole r) u = orders-two n (top .individuals-top) f g h k r r r u
   orders-fits (SymmetricRole r) u = orders-swap n (top .individuals-top) f g h k r r u
-  orders-fits (FunctionalRole r) u = orders-merge n (top .individuals-top) f g h k (B .counts .classes) r (top .classes-top) u
-  orders-fits (InverseFunctionalRole r) u = orders-merge n (top .individuals-top) f g h k (B .counts .classes) (flipped r) (top .classes-top) u
+  orders-fits (FunctionalRole r) u = orders-join n (top .individuals-top) f g h k r u
+  orders-fits (InverseFunctionalRole r) u = orders-join n (top .individuals-top) f g h k (flipped r) u
   orders-fits (ObjectPropertyDomain r c) u = orders-domain n (top .individuals-top) f g h k r (concept B c) u
   orders-fits (ObjectPropertyRange r c) u = orders-range n (top .individuals-top) f g h k r (concept B c) u
   orders-fits (SameIndividual a b) u = absurd (let a = u .1 in omega arith)

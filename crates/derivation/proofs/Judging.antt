@@ -1,8 +1,8 @@
 -- What a row claims follows from the rows that it names exactly if the tests by numbers say so, for some order of the three facts.
-use Prim.Native.Nat.{ℕ, zero, suc, _<_}
+use Prim.Native.Nat.{ℕ, zero, suc, _<_, _≤_}
 use native.Mathlib.Omega.{arith}
 use mathlib.Core.Path.{_≡_, refl, ap, _∙_, subst}
-use mathlib.Core.Bool.{Bool, true, false, not, _||_}
+use mathlib.Core.Bool.{Bool, true, false}
 use mathlib.Core.List.{List, [], _∷_}
 use mathlib.Core.Logic.{_⊎_, inl, inr, ⊎-elim}
 use lib.ListN.{length}
@@ -19,17 +19,17 @@ use Rattle.book.specs.declared.statement.SubRolePath.{SubRolePath}
 use Rattle.book.specs.declared.statement.SubRolePath.the-variants.{One, Two, Three}
 use Rattle.book.specs.declared.statement.Axiom.{Axiom}
 use Rattle.book.specs.declared.statement.Axiom.the-variants.{SubClassOf, EquivalentClasses, DisjointClasses, InverseObjectProperties, SubObjectPropertyOf, TransitiveRole, SymmetricRole, FunctionalRole, InverseFunctionalRole, ObjectPropertyDomain, ObjectPropertyRange, SameIndividual, ClassAssertion, ObjectPropertyAssertion}
-use Rattle.rules.specs.Fact.{edge, type}
+use Rattle.rules.specs.Fact.{edge, type, pair}
 use Rattle.rules.specs.Rule.{Set, Rule, keep, when, each, given, every, yields}
 use Rattle.rules.specs.Brought.{concept, atomicOf, atomics, values}
 use Rattle.rules.specs.ToldSame.{same}
 use Rattle.rules.specs.Meaning.{told, bring, under}
-use Rattle.rules.proofs.Tests.{false-true, or-cases, or-left, or-right, and-both, and-intro}
-use Rattle.saturation.proofs.Members.{both-ways}
+use Rattle.rules.proofs.Tests.{false-true, both-ways, or-cases, or-left, or-right, and-both, and-intro}
+use Rattle.rules.proofs.Facts.{pair-lt}
 use Rattle.derivation.specs.Rows.{none, Claim, fact, clash, nothing, says, oneOf, factIn}
-use Rattle.derivation.specs.Accept.{mergeOther, useOf, sharingBoth}
-use Rattle.derivation.specs.Fits.{leadsFrom, leadsTo, bearer, classIn, isEdge, fits, shareTypes, roleIn, shareEdges, shareFits, oneOfThree, anyOrder}
-use Rattle.derivation.proofs.Uses.{uses, used-by, Orders, orders-given, given-orders, orders-uses, Asks, uses-orders}
+use Rattle.derivation.specs.Accept.{joinOther, useOf, across, sharingBoth}
+use Rattle.derivation.specs.Fits.{leadsFrom, leadsTo, bearer, classIn, isEdge, fits, joins, changes, shareTypes, roleIn, shareEdges, shareFits, oneOfThree, anyOrder}
+use Rattle.derivation.proofs.Uses.{Uses, uses, used-by, uses-given, given-uses, Orders, orders-uses, Asks, uses-orders}
 use Rattle.derivation.proofs.Fitting.{type-bearer, type-class, type-low, is-edge, edge-is, fits-orders, orders-fits}
 
 -- ---- how many premises a statement asks for
@@ -57,8 +57,8 @@ module _ (B : Book) (f : ℕ) where
   asks-path (Two r s) t = λ a b c. tt
   asks-path (Three r s u) t = λ a b c d. tt
 
-  asks-merge : (r : Role) → Asks f 3 (mergeOther (B .counts .individuals) (B .counts .classes) r)
-  asks-merge r = λ a b c. asks-given f 1 (not (eqb b c)) _ (λ d. tt)
+  asks-join : (r : Role) → Asks f 3 (joinOther (B .counts .individuals) r)
+  asks-join r = λ a b c. asks-given f 1 (ltb b c) _ tt
 
   asks-use : (x : Axiom) → Asks f 3 (useOf B x)
   asks-use (SubClassOf c d) = asks-bring (concept B c) (concept B d)
@@ -68,22 +68,19 @@ module _ (B : Book) (f : ℕ) where
   asks-use (SubObjectPropertyOf p t) = asks-path p t
   asks-use (TransitiveRole r) = λ a b c. tt
   asks-use (SymmetricRole r) = λ a b. tt
-  asks-use (FunctionalRole r) = asks-merge r
-  asks-use (InverseFunctionalRole r) = asks-merge (flipped r)
+  asks-use (FunctionalRole r) = asks-join r
+  asks-use (InverseFunctionalRole r) = asks-join (flipped r)
   asks-use (ObjectPropertyDomain r c) = asks-every f 3 _ (λ d a b. tt) (atomics (concept B c))
   asks-use (ObjectPropertyRange r c) = asks-every f 3 _ (λ d a b. tt) (atomics (concept B c))
   asks-use (SameIndividual a b) = λ k. tt
   asks-use (ClassAssertion c i) = (asks-every f 3 _ (λ c. tt) (atomics (concept B c)), asks-every f 3 _ (λ v. tt) (values (concept B c)))
   asks-use (ObjectPropertyAssertion r a b) = tt
 
-  asks-sharing : Asks f 1 (sharingBoth B)
-  asks-sharing = ((λ i j. asks-given f 1 (same B i j) _ (λ c. tt)), λ i j. asks-given f 1 (same B i j) _ (λ a b. asks-given f 1 (same B a b) _ (λ r. tt)))
-
 -- ---- three facts
 
 -- what is claimed is below `none`
 abbrev pub Low : Claim → Type 0
-Low (fact g) = g < 16908288
+Low (fact g) = g < 17170432
 Low clash = Unit {0}
 Low nothing = Unit {0}
 
@@ -173,98 +170,200 @@ module _ (a b c : Claim) (la : Low a) (lb : Low b) (lc : Low c) where
 
     -- ---- rule 6
 
-    share-orders : (g : ℕ) → shareFits (B .counts) B f g ≡ true → Orders f (sharingBoth B) (g ∷ [])
-    unfolding shareFits shareTypes shareEdges
-    share-orders g e = ⊎-elim types edges (or-cases (shareTypes (B .counts) B f g) (shareEdges (B .counts) B f g) e)
+    abbrev n : ℕ
+    n = B .counts .individuals
+
+    -- a change of an end, and what is named for it
+    abbrev Changed : ℕ → ℕ → Type 0
+    Changed i j = (x : ℕ) × slots x × (changes B i j x ≡ true)
+
+    across-uses : (i j : ℕ) (R : Rule) → Uses P f (across B i j R) → Changed i j × Uses P f R
+    unfolding changes
+    across-uses i j R u = ⊎-elim told (λ v. ⊎-elim one other v) u
       where
-        types : shareTypes (B .counts) B f g ≡ true → Orders f (sharingBoth B) (g ∷ [])
-        types u =
-            let i = and-both (ltb (bearer g) (B .counts .individuals)) _ u in
-            let j = and-both (ltb (bearer f) (B .counts .individuals)) _ (i .1) in
-            let k = and-both (ltb (classIn g) (B .counts .classes)) _ (j .1) in
-            let m = and-both (eqb g (type (bearer g) (classIn g))) _ (k .1) in
-            let o = and-both (eqb f (type (bearer f) (classIn g))) _ (m .1) in
-            let l = ltb-true (bearer g) (B .counts .individuals) (i .0) in
-            let z = ltb-true (classIn g) (B .counts .classes) (k .0) in
-            let s = eqb-true g _ (m .0) in
-            let y = type-low (bearer g) (classIn g) (omega (arith, top .individuals-top)) (omega (arith, top .classes-top)) in
-            inl (bearer g, l, (bearer f, ltb-true (bearer f) _ (j .0), given-orders f (same B (bearer g) (bearer f)) _ (g ∷ []) (o .1) (classIn g, z, (omega arith, s, eqb-true f _ (o .0)))))
+        told : Uses P f (given (same B i j) R) → Changed i j × Uses P f R
+        told v = let w = uses-given P f (same B i j) R v in ((factIn a, inl refl, or-left (same B i j) _ (w .0)), w .1)
 
-        edges : shareEdges (B .counts) B f g ≡ true → Orders f (sharingBoth B) (g ∷ [])
-        edges u =
-            let i = and-both (ltb (roleIn g) (B .counts .roles)) _ u in
-            let j = and-both (isEdge (B .counts .individuals) (Named (roleIn g)) g) _ (i .1) in
-            let k = and-both (isEdge (B .counts .individuals) (Named (roleIn g)) f) _ (j .1) in
-            let m = and-both (same B (leadsFrom (Named 0) g) (leadsFrom (Named 0) f)) _ (k .1) in
-            let r = ltb-true (roleIn g) (B .counts .roles) (i .0) in
-            let x = is-edge (B .counts .individuals) (top .individuals-top) (Named (roleIn g)) g (omega (arith, top .roles-top)) (j .0) in
-            let y = is-edge (B .counts .individuals) (top .individuals-top) (Named (roleIn g)) f (omega (arith, top .roles-top)) (k .0) in
-            inr (
-              leadsFrom (Named 0) g,
-              x .from-low,
-              (
-                leadsFrom (Named 0) f,
-                y .from-low,
-                given-orders f (same B (leadsFrom (Named 0) g) (leadsFrom (Named 0) f)) _ (g ∷ []) (m .0)
-                    (leadsTo (Named 0) g, x .to-low, (leadsTo (Named 0) f, y .to-low, given-orders f (same B (leadsTo (Named 0) g) (leadsTo (Named 0) f)) _ (g ∷ []) (m .1) (roleIn g, r, (x .low, x .is, y .is)))),
-              ),
-            )
+        one : Uses P f (when (pair i j) R) → Changed i j × Uses P f R
+        one v = (
+          (
+            pair i j,
+            taken (pair i j) (v .0) .1,
+            or-right (same B i j) _ (or-left (eqb (pair i j) (pair i j)) _ (eq-eqb (pair i j) (pair i j) refl)),
+          ),
+          v .1,
+        )
 
-    share-types : (g i j d : ℕ) → i < B .counts .individuals → j < B .counts .individuals → d < B .counts .classes → g ≡ type i d → f ≡ type j d → same B i j ≡ true → shareTypes (B .counts) B f g ≡ true
+        other : Uses P f (when (pair j i) R) → Changed i j × Uses P f R
+        other v = (
+          (
+            pair j i,
+            taken (pair j i) (v .0) .1,
+            or-right (same B i j) _ (or-right (eqb (pair j i) (pair i j)) _ (eq-eqb (pair j i) (pair j i) refl)),
+          ),
+          v .1,
+        )
+
+    uses-across : (i j x : ℕ) (R : Rule) → i < n → j < n → slots x → changes B i j x ≡ true → Uses P f R → Uses P f (across B i j R)
+    unfolding changes
+    uses-across i j x R l m s e u =
+        ⊎-elim
+        (λ q. inl (given-uses P f (same B i j) R q u))
+        (λ q. inr (⊎-elim
+        (λ k. inl (known (pair i j) (eqb-true x (pair i j) k) (pair-lt i j (omega arith) (omega arith)), u))
+        (λ k. inr (known (pair j i) (eqb-true x (pair j i) k) (pair-lt j i (omega arith) (omega arith)), u))
+        (or-cases (eqb x (pair i j)) (eqb x (pair j i)) q)))
+        (or-cases (same B i j) (joins i j x) e)
+      where
+        few : n ≤ 512
+        few = top .individuals-top
+
+        known : (g : ℕ) → x ≡ g → g < 17170432 → P g ≡ true
+        known g q k = named g (subst slots q s) (omega arith)
+
+    share-types : (g i j d x : ℕ) → i < n → j < n → d < B .counts .classes → g ≡ type i d → f ≡ type j d → changes B i j x ≡ true
+        → shareTypes (B .counts) B f g x ≡ true
     unfolding shareTypes
-    share-types g i j d l m o q r s =
+    share-types g i j d x l m o q r s =
         let top-i = top .individuals-top in
         let top-c = top .classes-top in
-        let x : bearer g ≡ i = ap bearer q ∙ type-bearer i d (omega arith) (omega arith) in
-        let y : bearer f ≡ j = ap bearer r ∙ type-bearer j d (omega arith) (omega arith) in
+        let u : bearer g ≡ i = ap bearer q ∙ type-bearer i d (omega arith) (omega arith) in
+        let v : bearer f ≡ j = ap bearer r ∙ type-bearer j d (omega arith) (omega arith) in
         let z : classIn g ≡ d = ap classIn q ∙ type-class i d (omega arith) in
-        rw (x, y, z) (and-intro _ _ (lt-ltb i _ l) (and-intro _ _ (lt-ltb j _ m) (and-intro _ _ (lt-ltb d _ o) (and-intro _ _ (eq-eqb g (type i d) q) (and-intro _ _ (eq-eqb f (type j d) r) s)))))
+        rw (u, v, z) (and-intro _ _ (lt-ltb i _ l) (and-intro _ _ (lt-ltb j _ m) (and-intro _ _ (lt-ltb d _ o)
+        (and-intro _ _ (eq-eqb g (type i d) q) (and-intro _ _ (eq-eqb f (type j d) r) s)))))
 
     edge-role : (r i j : ℕ) → i < 512 → j < 512 → roleIn (edge (Named r) i j) ≡ r
     unfolding edge
     edge-role r i j l m = omega arith
 
-    share-edges : (g i j d e r : ℕ) → i < B .counts .individuals → j < B .counts .individuals → d < B .counts .individuals → e < B .counts .individuals → r < B .counts .roles → g ≡ edge (Named r) i d → f ≡ edge (Named r) j e → same B i j ≡ true → same B d e ≡ true → shareEdges (B .counts) B f g ≡ true
+    share-edges : (g i j d e r x y : ℕ) → i < n → j < n → d < n → e < n → r < B .counts .roles → g ≡ edge (Named r) i d → f ≡ edge (Named r) j e
+        → changes B i j x ≡ true → changes B d e y ≡ true → shareEdges (B .counts) B f g x y ≡ true
     unfolding shareEdges
-    share-edges g i j d e r li lj ld le lr q s u v =
-        let n = B .counts .individuals in
+    share-edges g i j d e r x y li lj ld le lr q s u v =
         let top-i = top .individuals-top in
         let w : roleIn g ≡ r = ap roleIn q ∙ edge-role r i d (omega arith) (omega arith) in
-        let x = edge-is n top-i (Named r) g i d li ld q in
-        let y = edge-is n top-i (Named r) f j e lj le s in
-        rw (w, x .1, x .2, y .1, y .2) (and-intro _ _ (lt-ltb r _ lr) (and-intro _ _ (x .0) (and-intro _ _ (y .0) (and-intro _ _ u v))))
+        let c = edge-is n top-i (Named r) g i d li ld q in
+        let z = edge-is n top-i (Named r) f j e lj le s in
+        rw (w, c .1, c .2, z .1, z .2) (and-intro _ _ (lt-ltb r _ lr) (and-intro _ _ (c .0) (and-intro _ _ (z .0) (and-intro _ _ u v))))
 
-    orders-share : (g : ℕ) → Orders f (sharingBoth B) (g ∷ []) → shareFits (B .counts) B f g ≡ true
+    -- what is used: the fact, and what is named for each end
+    abbrev Shared : Type 0
+    Shared = (g : ℕ) × (x : ℕ) × (y : ℕ) × slots g × slots x × slots y × (shareFits (B .counts) B f g x y ≡ true)
+
+    abbrev ofTypes : Rule
+    ofTypes = each n λ i. each n λ j. across B i j (each (B .counts .classes) λ c. when (type i c) (keep (type j c)))
+
+    abbrev ofEdges : Rule
+    ofEdges =
+        each n λ i. each n λ j. across B i j (each n λ a. each n λ b. across B a b
+        (each (B .counts .roles) λ r. when (edge (Named r) i a) (keep (edge (Named r) j b))))
+
+    types-shared : Uses P f ofTypes → Shared
     unfolding shareFits
-    orders-share g u = ⊎-elim types edges u
-      where
-        types : Orders f (each (B .counts .individuals) λ i. each (B .counts .individuals) λ j. given (same B i j) (each (B .counts .classes) λ c. when (type i c) (keep (type j c)))) (g ∷ []) → (shareTypes (B .counts) B f g || shareEdges (B .counts) B f g) ≡ true
-        types (i, l, (j, m, v)) =
-            let w = orders-given f (same B i j) (each (B .counts .classes) λ c. when (type i c) (keep (type j c))) (g ∷ []) v in
-            or-left (shareTypes (B .counts) B f g) _ (share-types g i j (w .1 .0) l m (w .1 .1) (w .1 .2 .1) (w .1 .2 .2) (w .0))
+    types-shared (i, l, (j, m, u)) =
+        let w = across-uses i j (each (B .counts .classes) λ c. when (type i c) (keep (type j c))) u in
+        let x = w .0 in
+        let d = w .1 in
+        let t = d .2 in (
+          type i (d .0),
+          x .0,
+          factIn a,
+          taken (type i (d .0)) (t .0) .1,
+          x .1,
+          inl refl,
+          or-left (shareTypes (B .counts) B f (type i (d .0)) (x .0)) _ (share-types (type i (d .0)) i j (d .0) (x .0) l m (d .1) refl (t .1) (x .2)),
+        )
 
-        edges : Orders f (each (B .counts .individuals) λ i. each (B .counts .individuals) λ j. given (same B i j) (each (B .counts .individuals) λ a. each (B .counts .individuals) λ b. given (same B a b) (each (B .counts .roles) λ r. when (edge (Named r) i a) (keep (edge (Named r) j b))))) (g ∷ []) → (shareTypes (B .counts) B f g || shareEdges (B .counts) B f g) ≡ true
-        edges (i, l, (j, m, v)) =
-            let w = orders-given f (same B i j) (each (B .counts .individuals) λ a. each (B .counts .individuals) λ b. given (same B a b) (each (B .counts .roles) λ r. when (edge (Named r) i a) (keep (edge (Named r) j b)))) (g ∷ []) v in
-            let x = w .1 in
-            let y = x .2 in
-            let z = orders-given f (same B (x .0) (y .0)) (each (B .counts .roles) λ r. when (edge (Named r) i (x .0)) (keep (edge (Named r) j (y .0)))) (g ∷ []) (y .2) in
-            or-right (shareTypes (B .counts) B f g) _ (share-edges g i j (x .0) (y .0) (z .1 .0) l m (x .1) (y .1) (z .1 .1) (z .1 .2 .1) (z .1 .2 .2) (w .0) (z .0))
+    edges-shared : Uses P f ofEdges → Shared
+    unfolding shareFits
+    edges-shared (i, l, (j, m, u)) =
+        let w = across-uses i j (each n λ a. each n λ b. across B a b (each (B .counts .roles) λ r. when (edge (Named r) i a) (keep (edge (Named r) j b)))) u in
+        let x = w .0 in
+        let d = w .1 in
+        let e = d .2 in
+        let z = across-uses (d .0) (e .0) (each (B .counts .roles) λ r. when (edge (Named r) i (d .0)) (keep (edge (Named r) j (e .0)))) (e .2) in
+        let y = z .0 in
+        let r = z .1 in
+        let t = r .2 in
+        let g = edge (Named (r .0)) i (d .0) in (
+          g,
+          x .0,
+          y .0,
+          taken g (t .0) .1,
+          x .1,
+          y .1,
+          or-right (shareTypes (B .counts) B f g (x .0)) (shareEdges (B .counts) B f g (x .0) (y .0))
+              (share-edges g i j (d .0) (e .0) (r .0) (x .0) (y .0) l m (d .1) (e .1) (r .1) refl (t .1) (x .2) (y .2)),
+        )
 
-    pub sharing-tried : yields (sharingBoth B) P f ≡ oneOfThree (factIn a) (factIn b) (factIn c) (shareFits (B .counts) B f)
+    shared-types : (g x : ℕ) → slots g → slots x → shareTypes (B .counts) B f g x ≡ true → Uses P f ofTypes
+    unfolding shareTypes
+    shared-types g x sg sx u =
+        let i = and-both (ltb (bearer g) n) _ u in
+        let j = and-both (ltb (bearer f) n) _ (i .1) in
+        let k = and-both (ltb (classIn g) (B .counts .classes)) _ (j .1) in
+        let m = and-both (eqb g (type (bearer g) (classIn g))) _ (k .1) in
+        let o = and-both (eqb f (type (bearer f) (classIn g))) _ (m .1) in
+        let l = ltb-true (bearer g) n (i .0) in
+        let v = ltb-true (bearer f) n (j .0) in
+        let z = ltb-true (classIn g) (B .counts .classes) (k .0) in
+        let s = eqb-true g _ (m .0) in
+        let y = type-low (bearer g) (classIn g) (omega (arith, top .individuals-top)) (omega (arith, top .classes-top)) in
+        let p : P (type (bearer g) (classIn g)) ≡ true = subst (λ (w : ℕ). P w ≡ true) s (named g sg (omega arith)) in
+        (bearer g, l, (bearer f, v, uses-across (bearer g) (bearer f) x _ l v sx (o .1) (classIn g, z, (p, eqb-true f _ (o .0)))))
+
+    shared-edges : (g x y : ℕ) → slots g → slots x → slots y → shareEdges (B .counts) B f g x y ≡ true → Uses P f ofEdges
+    unfolding shareEdges
+    shared-edges g x y sg sx sy u =
+        let i = and-both (ltb (roleIn g) (B .counts .roles)) _ u in
+        let j = and-both (isEdge n (Named (roleIn g)) g) _ (i .1) in
+        let k = and-both (isEdge n (Named (roleIn g)) f) _ (j .1) in
+        let m = and-both (changes B (leadsFrom (Named 0) g) (leadsFrom (Named 0) f) x) _ (k .1) in
+        let r = ltb-true (roleIn g) (B .counts .roles) (i .0) in
+        let v = is-edge n (top .individuals-top) (Named (roleIn g)) g (omega (arith, top .roles-top)) (j .0) in
+        let w = is-edge n (top .individuals-top) (Named (roleIn g)) f (omega (arith, top .roles-top)) (k .0) in
+        let p : P (edge (Named (roleIn g)) (leadsFrom (Named 0) g) (leadsTo (Named 0) g)) ≡ true = subst (λ (z : ℕ). P z ≡ true) (v .is) (named g sg (v .low)) in (
+          leadsFrom (Named 0) g,
+          v .from-low,
+          (
+            leadsFrom (Named 0) f,
+            w .from-low,
+            uses-across (leadsFrom (Named 0) g) (leadsFrom (Named 0) f) x _ (v .from-low) (w .from-low) sx (m .0) (
+              leadsTo (Named 0) g,
+              v .to-low,
+              (
+                leadsTo (Named 0) f,
+                w .to-low,
+                uses-across (leadsTo (Named 0) g) (leadsTo (Named 0) f) y _ (v .to-low) (w .to-low) sy (m .1) (roleIn g, r, (p, w .is)),
+              ),
+            ),
+          ),
+        )
+
+    abbrev shareThird : ℕ → ℕ → Bool
+    shareThird g x = oneOfThree (factIn a) (factIn b) (factIn c) λ y. shareFits (B .counts) B f g x y
+
+    abbrev shareSecond : ℕ → Bool
+    shareSecond g = oneOfThree (factIn a) (factIn b) (factIn c) λ x. shareThird g x
+
+    pub sharing-tried : yields (sharingBoth B) P f ≡ anyOrder (factIn a) (factIn b) (factIn c) (shareFits (B .counts) B f)
+    unfolding anyOrder shareFits
     sharing-tried = both-ways _ _ into back
       where
-        order : (gs : List ℕ) → length gs ≡ 1 → Every slots gs → Orders f (sharingBoth B) gs → oneOfThree (factIn a) (factIn b) (factIn c) (shareFits (B .counts) B f) ≡ true
-        order [] e s o = absurd (omega arith)
-        order (g ∷ []) e s o = slot-three (factIn a) (factIn b) (factIn c) (shareFits (B .counts) B f) g (s .0) (orders-share g o)
-        order (g ∷ h ∷ gs) e s o = absurd (omega arith)
-
-        into : yields (sharingBoth B) P f ≡ true → oneOfThree (factIn a) (factIn b) (factIn c) (shareFits (B .counts) B f) ≡ true
+        into : yields (sharingBoth B) P f ≡ true → anyOrder (factIn a) (factIn b) (factIn c) (shareFits (B .counts) B f) ≡ true
         into e =
-            let r = uses-orders f P (factIn a) slots (inl refl) taken 1 (sharingBoth B) (asks-sharing B f) (uses P f (sharingBoth B) e) in
-            order (r .0) (r .1) (r .2) (r .3)
+            let s = ⊎-elim types-shared edges-shared (uses P f (sharingBoth B) e) in
+            slot-three (factIn a) (factIn b) (factIn c) shareSecond (s .0) (s .3)
+            (slot-three (factIn a) (factIn b) (factIn c) (shareThird (s .0)) (s .1) (s .4)
+            (slot-three (factIn a) (factIn b) (factIn c) (λ y. shareFits (B .counts) B f (s .0) (s .1) y) (s .2) (s .5) (s .6)))
 
-        back : oneOfThree (factIn a) (factIn b) (factIn c) (shareFits (B .counts) B f) ≡ true → yields (sharingBoth B) P f ≡ true
+        back : anyOrder (factIn a) (factIn b) (factIn c) (shareFits (B .counts) B f) ≡ true → yields (sharingBoth B) P f ≡ true
         back e =
-            let g = three-slot (factIn a) (factIn b) (factIn c) (shareFits (B .counts) B f) e in
-            used-by P f (sharingBoth B) (orders-uses f P (sharingBoth B) (g .0 ∷ []) (named (g .0) (g .1), tt) (share-orders (g .0) (g .2)))
+            let g = three-slot (factIn a) (factIn b) (factIn c) shareSecond e in
+            let x = three-slot (factIn a) (factIn b) (factIn c) (shareThird (g .0)) (g .2) in
+            let y = three-slot (factIn a) (factIn b) (factIn c) (shareFits (B .counts) B f (g .0) (x .0)) (x .2) in
+            used-by P f (sharingBoth B) (⊎-elim
+            (λ u. inl (shared-types (g .0) (x .0) (g .1) (x .1) u))
+            (λ u. inr (shared-edges (g .0) (x .0) (y .0) (g .1) (x .1) (y .1) u))
+            (or-cases (shareTypes (B .counts) B f (g .0) (x .0)) (shareEdges (B .counts) B f (g .0) (x .0) (y .0)) (y .2)))

@@ -24,13 +24,13 @@ use Rattle.book.specs.declared.role.Role.{Role}
 use Rattle.rows.specs.Row.{at, Put, Gathered}
 use Rattle.rules.specs.Rule.{any, some}
 use Rattle.rules.specs.Brought.{concept, Value, Shape, atomic, nominal, conjunction, existential, other, shape, leaves, leavesIn, classOf, fillerValue, valueIn as shapeValue}
-use Rattle.rules.proofs.Tests.{false-true, not-true, or-cases, or-left, or-right, any-some, some-any}
+use Rattle.rules.proofs.Tests.{false-true, both-ways, not-true, or-cases, or-left, or-right, any-some, some-any}
 use Rattle.tables.specs.Leaf.{kindIn, isAnd, LeafOf, Leaves}
 use Rattle.tables.specs.Open.{bookOf, Open}
 use Rattle.tables.specs.Parts.{partsIn, partIn}
 use Rattle.tables.proofs.Tables.{some-append}
 use Rattle.tables.proofs.concept.Records.{part-lower, treesAfter, trees-more, trees-none, and-tree}
-use Rattle.saturation.proofs.Members.{both-ways, any-same}
+use Rattle.tables.proofs.Members.{any-same}
 use Rattle.derivation.specs.Tables.{noSlot, valueSlot, shapeSlot, slotTree, slotOf, leafHas}
 use Rattle.derivation.specs.Collected.{standsFor, Slotted, Wide, Parted, Deep}
 

@@ -1,23 +1,27 @@
--- More facts leave a clash a clash; two uses of rule 6 change both ends; and a rule 7 for different fillers asks no more than one for any two.
-use Prim.Native.Nat.{ℕ}
+-- More facts leave a clash a clash; two uses of rule 6 change both ends, inside told classes and across joinings; and a rule 7 for different fillers
+-- asks no more than one for any two.
+use Prim.Native.Nat.{ℕ, _<_}
 use mathlib.Core.Path.{_≡_}
 use mathlib.Core.Bool.{Bool, true, not, _&&_, _||_}
 use mathlib.Core.List.{List, [], _∷_}
 use mathlib.Core.Logic.{⊎-elim}
-use lib.Dec.{eqb}
+use lib.Dec.{eqb, ltb}
 use Rattle.book.specs.Book.{Book}
 use Rattle.book.specs.declared.role.Role.{Role}
 use Rattle.book.specs.declared.role.Role.the-variants.{Named, Inverse}
-use Rattle.rules.specs.Fact.{type, Two}
-use Rattle.rules.specs.Rule.{Set, Obeys, any, some}
+use Rattle.rules.specs.Fact.{type, pair, Two}
+use Rattle.rules.specs.Rule.{Set, Rule, Obeys, any, some}
 use Rattle.rules.specs.ToldSame.{same}
-use Rattle.rules.specs.Meaning.{sharing, merge}
+use Rattle.rules.specs.Meaning.{join, rules}
 use Rattle.rules.specs.Same.{functional}
 use Rattle.rules.specs.Clash.{disjoint, marks, marked, bothMarked, typeClash, markerClash, clashes}
 use Rattle.rules.specs.Applied.{In}
 use Rattle.rules.proofs.Tests.{or-cases, or-left, or-right, and-both, and-intro, any-some, some-any}
-use Rattle.rules.proofs.Least.{given-obeys, obeys-given}
-use Rattle.derivation.specs.Accept.{sharingBoth, mergeOther}
+use Rattle.rules.proofs.Least.{given-obeys}
+use Rattle.rules.proofs.Inside.{Inside}
+use Rattle.rules.proofs.Classes.{class-turn}
+use Rattle.rules.proofs.Held.{told-pair}
+use Rattle.derivation.specs.Accept.{joinOther, across, sharingBoth}
 
 -- a implies b, as tests
 abbrev pub Up : Bool → Bool → Type 0
@@ -57,12 +61,24 @@ module _ (B : Book) (P S : Set) (within : In P S) where
   unfolding clashes
   clashes-up = any-up (B .counts .individuals) _ _ λ x. or-up _ _ _ _ (typeClash-up x) (markerClash-up x)
 
-pub sharing-both : (B : Book) (S : Set) → Obeys (sharing B) S → Obeys (sharingBoth B) S
-sharing-both B S o = (
-  λ i k j l. given-obeys S (same B i j) _ (λ e. obeys-given S (same B i j) _ (o i k j l) e .0),
-  λ i k j l. given-obeys S (same B i j) _ (λ e a m b n. given-obeys S (same B a b) _ (λ g r q h.
-      obeys-given S (same B a b) _ (o a m b n) g .1 r q j l .1 (obeys-given S (same B i j) _ (o i k j l) e .1 r q a m .0 h))),
-)
+-- what changes i to j, in a set where told-same individuals are a pair
+module _ (B : Book) (inside : Inside B) (S : Set) (obeys : Obeys (rules B) S) where
+  abbrev n : ℕ
+  n = B .counts .individuals
 
-pub merge-other : (S : Set) (n k : ℕ) (r : Role) → Obeys (merge n k r) S → Obeys (mergeOther n k r) S
-merge-other S n k r o = λ a i b j e c l f. given-obeys S (not (eqb b c)) _ (λ q. o a i b j e c l f)
+  across-obeys : (i j : ℕ) (R : Rule) → i < n → j < n → (S (pair i j) ≡ true → Obeys R S) → Obeys (across B i j R) S
+  unfolding rules
+  across-obeys i j R l m r = (
+    given-obeys S (same B i j) R (λ e. r (told-pair B inside S obeys i j l m e)),
+    (r, λ e. r (class-turn n S (obeys .1 .0) j i m l e)),
+  )
+
+  pub sharing-both : Obeys (sharingBoth B) S
+  unfolding rules
+  sharing-both = (
+    λ i k j l. across-obeys i j _ k l (λ e. obeys .1 .1 i k j l e .0),
+    λ i k j l. across-obeys i j _ k l (λ e a m b o. across-obeys a b _ m o (λ g r q h. obeys .1 .1 a m b o g .1 r q j l .1 (obeys .1 .1 i k j l e .1 r q a m .0 h))),
+  )
+
+pub join-other : (S : Set) (n : ℕ) (r : Role) → Obeys (join n r) S → Obeys (joinOther n r) S
+join-other S n r o = λ a i b j e c l f. given-obeys S (ltb b c) _ (λ q. o a i b j e c l f)

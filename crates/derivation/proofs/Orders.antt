@@ -1,7 +1,7 @@
 -- The ways of the functions that try the premises in any order.
 use Prim.Native.Nat.{ℕ, _<_, _≤_}
 use native.Mathlib.Omega.{arith}
-use mathlib.Core.Path.{_≡_, refl, ap, sym, _∙_}
+use mathlib.Core.Path.{_≡_, refl, ap, ap₂, sym, _∙_}
 use mathlib.Core.Bool.{Bool, true, false, _&&_}
 use mathlib.Core.List.{List}
 use lib.ListN.{getD}
@@ -15,8 +15,8 @@ use Rattle.rows.specs.Row.{has}
 use Rattle.rules.specs.Fact.{type}
 use Rattle.rules.specs.ToldSame.{same}
 use Rattle.rules.proofs.Tests.{or-left, or-right}
-use Rattle.derivation.specs.Fits.{leadsFrom, leadsTo, bearer, classIn, roleIn, isEdge, shareTypes, shareEdges, clashFits, oneOfThree}
-use Rattle.derivation.specs.Tables.{toldSame, LabelsOf, PairsOf}
+use Rattle.derivation.specs.Fits.{leadsFrom, leadsTo, bearer, classIn, roleIn, isEdge, changes, shareTypes, shareEdges, clashFits, oneOfThree}
+use Rattle.derivation.specs.Tables.{toldSame, oneClassBy, LabelsOf, PairsOf}
 use Rattle.derivation.proofs.Fitting.{is-edge}
 
 module _ (p q t : ℕ) (test : ℕ → Bool) where
@@ -51,42 +51,52 @@ module _ {B : Book} {h : Counts} {K : List ℕ} (t : LabelsOf B h K) where
   unfolding toldSame
   told-is i j e f = rw (e, f) (t .labels i j (ltb-true i _ e) (ltb-true j _ f))
 
-  pub types-share : (f g : ℕ) {i j c x y : ℕ} {s : Bool} → i ≡ bearer g → j ≡ bearer f → c ≡ classIn g → x ≡ type i c → y ≡ type j c → s ≡ toldSame (h .individuals) K i j
-      → (ltb i (h .individuals) && (ltb j (h .individuals) && (ltb c (h .classes) && (eqb g x && (eqb f y && s))))) ≡ shareTypes h B f g
+  one-class-is : (i j x : ℕ) → ltb i (h .individuals) ≡ true → ltb j (h .individuals) ≡ true → oneClassBy (h .individuals) K i j x ≡ changes B i j x
+  unfolding changes
+  one-class-is i j x e f = rw (told-is i j e f) refl
+
+  pub types-share : (f g x : ℕ) {i j c u v : ℕ} {s : Bool} → i ≡ bearer g → j ≡ bearer f → c ≡ classIn g → u ≡ type i c → v ≡ type j c
+      → s ≡ oneClassBy (h .individuals) K i j x
+      → (ltb i (h .individuals) && (ltb j (h .individuals) && (ltb c (h .classes) && (eqb g u && (eqb f v && s))))) ≡ shareTypes h B f g x
   unfolding shareTypes
-  types-share f g ei ej ec ex ey es = rw (es, ey, ex, ec, ei, ej) (go (ltb (bearer g) (h .individuals)) (ltb (bearer f) (h .individuals)) refl refl)
+  types-share f g x ei ej ec eu ev es = rw (es, ev, eu, ec, ei, ej) (go (ltb (bearer g) (h .individuals)) (ltb (bearer f) (h .individuals)) refl refl)
     where
       go : (a b : Bool) → ltb (bearer g) (h .individuals) ≡ a → ltb (bearer f) (h .individuals) ≡ b
-          → (a && (b && (ltb (classIn g) (h .classes) && (eqb g (type (bearer g) (classIn g)) && (eqb f (type (bearer f) (classIn g)) && toldSame (h .individuals) K (bearer g) (bearer f))))))
-          ≡ (a && (b && (ltb (classIn g) (h .classes) && (eqb g (type (bearer g) (classIn g)) && (eqb f (type (bearer f) (classIn g)) && same B (bearer g) (bearer f))))))
-      go true true u v = rw (told-is (bearer g) (bearer f) u v) refl
-      go true false u v = refl
-      go false b u v = refl
+          → (a && (b && (ltb (classIn g) (h .classes) && (eqb g (type (bearer g) (classIn g)) && (eqb f (type (bearer f) (classIn g))
+          && oneClassBy (h .individuals) K (bearer g) (bearer f) x)))))
+          ≡ (a && (b && (ltb (classIn g) (h .classes) && (eqb g (type (bearer g) (classIn g)) && (eqb f (type (bearer f) (classIn g))
+          && changes B (bearer g) (bearer f) x)))))
+      go true true p q = rw (one-class-is (bearer g) (bearer f) x p q) refl
+      go true false p q = refl
+      go false b p q = refl
 
-  pub edges-none : (f g : ℕ) {r : ℕ} → r ≡ roleIn g → h .roles ≤ r → false ≡ shareEdges h B f g
+  pub edges-none : (f g x y : ℕ) {r : ℕ} → r ≡ roleIn g → h .roles ≤ r → false ≡ shareEdges h B f g x y
   unfolding shareEdges
-  edges-none f g {r} e l = let m : h .roles ≤ roleIn g = omega arith in rw (le-ltb (roleIn g) (h .roles) m) refl
+  edges-none f g x y {r} e l = let m : h .roles ≤ roleIn g = omega arith in rw (le-ltb (roleIn g) (h .roles) m) refl
 
-  pub edges-share : Limits h → (f g : ℕ) {r x y z w : ℕ} {first second one other : Bool} → r ≡ roleIn g → r < h .roles
-      → x ≡ leadsFrom (Named 0) g → y ≡ leadsFrom (Named 0) f → first ≡ toldSame (h .individuals) K x y
-      → z ≡ leadsTo (Named 0) g → w ≡ leadsTo (Named 0) f → second ≡ toldSame (h .individuals) K z w
+  pub edges-share : Limits h → (f g x y : ℕ) {r i j k m : ℕ} {first second one other : Bool} → r ≡ roleIn g → r < h .roles
+      → i ≡ leadsFrom (Named 0) g → j ≡ leadsFrom (Named 0) f → first ≡ oneClassBy (h .individuals) K i j x
+      → k ≡ leadsTo (Named 0) g → m ≡ leadsTo (Named 0) f → second ≡ oneClassBy (h .individuals) K k m y
       → one ≡ isEdge (h .individuals) (Named r) g → other ≡ isEdge (h .individuals) (Named r) f
-      → (one && (other && (first && second))) ≡ shareEdges h B f g
+      → (one && (other && (first && second))) ≡ shareEdges h B f g x y
   unfolding shareEdges
-  edges-share top f g {r} er lr ex ey e1 ez ew e2 eo eh =
+  edges-share top f g x y {r} er lr ei ej e1 ek em e2 eo eh =
       let l : ltb (roleIn g) (h .roles) ≡ true = ap (λ (k : ℕ). ltb k (h .roles)) (sym er) ∙ lt-ltb r (h .roles) lr in
-      rw (e1, e2, eo, eh, ex, ey, ez, ew, er, l) (go (isEdge (h .individuals) (Named (roleIn g)) g) (isEdge (h .individuals) (Named (roleIn g)) f) refl refl)
+      rw (e1, e2, eo, eh, ei, ej, ek, em, er, l) (go (isEdge (h .individuals) (Named (roleIn g)) g) (isEdge (h .individuals) (Named (roleIn g)) f) refl refl)
     where
       low : roleIn g < 64
       low = omega (arith, er, lr, top .roles-top)
 
       go : (a b : Bool) → isEdge (h .individuals) (Named (roleIn g)) g ≡ a → isEdge (h .individuals) (Named (roleIn g)) f ≡ b
-          → (a && (b && (toldSame (h .individuals) K (leadsFrom (Named 0) g) (leadsFrom (Named 0) f) && toldSame (h .individuals) K (leadsTo (Named 0) g) (leadsTo (Named 0) f))))
-          ≡ (a && (b && (same B (leadsFrom (Named 0) g) (leadsFrom (Named 0) f) && same B (leadsTo (Named 0) g) (leadsTo (Named 0) f))))
+          → (a && (b && (oneClassBy (h .individuals) K (leadsFrom (Named 0) g) (leadsFrom (Named 0) f) x
+          && oneClassBy (h .individuals) K (leadsTo (Named 0) g) (leadsTo (Named 0) f) y)))
+          ≡ (a && (b && (changes B (leadsFrom (Named 0) g) (leadsFrom (Named 0) f) x && changes B (leadsTo (Named 0) g) (leadsTo (Named 0) f) y)))
       go true true u v =
           let i = is-edge (h .individuals) (top .individuals-top) (Named (roleIn g)) g low u in
           let j = is-edge (h .individuals) (top .individuals-top) (Named (roleIn g)) f low v in
-          rw (told-is (leadsFrom (Named 0) g) (leadsFrom (Named 0) f) (lt-ltb (leadsFrom (Named 0) g) _ (i .from-low)) (lt-ltb (leadsFrom (Named 0) f) _ (j .from-low)), told-is (leadsTo (Named 0) g) (leadsTo (Named 0) f) (lt-ltb (leadsTo (Named 0) g) _ (i .to-low)) (lt-ltb (leadsTo (Named 0) f) _ (j .to-low))) refl
+          ap₂ _&&_
+          (one-class-is (leadsFrom (Named 0) g) (leadsFrom (Named 0) f) x (lt-ltb (leadsFrom (Named 0) g) _ (i .from-low)) (lt-ltb (leadsFrom (Named 0) f) _ (j .from-low)))
+          (one-class-is (leadsTo (Named 0) g) (leadsTo (Named 0) f) y (lt-ltb (leadsTo (Named 0) g) _ (i .to-low)) (lt-ltb (leadsTo (Named 0) f) _ (j .to-low)))
       go true false u v = refl
       go false b u v = refl
 

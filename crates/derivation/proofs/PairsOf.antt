@@ -21,14 +21,14 @@ use Rattle.rules.specs.Rule.{any, some}
 use Rattle.rules.specs.Brought.{concept, from, Marker, markers}
 use Rattle.rules.specs.Same.{functionalBy, functional}
 use Rattle.rules.specs.Clash.{disjointBy, disjoint}
-use Rattle.rules.proofs.Tests.{false-true, or-cases, or-left, or-right, and-both, and-intro, any-some, some-any}
+use Rattle.rules.proofs.Tests.{false-true, both-ways, or-cases, or-left, or-right, and-both, and-intro, any-some, some-any}
 use Rattle.tables.specs.Leaf.{kindIn, markerIn, Leaves}
 use Rattle.tables.specs.Open.{bookOf, Open}
 use Rattle.tables.specs.Tables.{Pairs, Takers, lists, takersBy, functionalsBy}
 use Rattle.tables.proofs.Open.{open-limits, open-within}
-use Rattle.saturation.proofs.Members.{both-ways, any-same, Member, member, some-same, some-map, some-from, some-each, listed-some}
-use Rattle.saturation.proofs.Sides.{sidesBy, isMarker, marksAs, and-unmarked, markers-some, marks-sides, PairLow, disjoint-low, functional-low}
-use Rattle.saturation.proofs.Takes.{brought-class}
+use Rattle.tables.proofs.Members.{any-same, Member, member, some-same, some-map, some-from, some-each, listed-some}
+use Rattle.tables.proofs.Sides.{sidesBy, isMarker, marksAs, and-unmarked, markers-some, marks-sides, PairLow, disjoint-low, functional-low}
+use Rattle.tables.proofs.Takers.{brought-class}
 use Rattle.derivation.specs.Accept.{statements}
 use Rattle.derivation.specs.Fits.{bringsMark, bothBring, pairClash}
 use Rattle.derivation.specs.Pairs.{marksClash, bringsClash, Paired}

@@ -23,7 +23,7 @@ use Rattle.tables.specs.Open.{bookOf, Open}
 use Rattle.tables.specs.Tables.{Blank, Takers, Labelled, Labels, takersBy}
 use Rattle.tables.proofs.Open.{open-limits, open-statements}
 use Rattle.tables.proofs.Blank.{blank}
-use Rattle.saturation.proofs.Sides.{class-low}
+use Rattle.tables.proofs.Sides.{class-low}
 use Rattle.derivation.specs.Accept.{statements, stands, standRows, faultyBook, judged}
 use Rattle.derivation.specs.Tables.{ConceptsOf, LabelsOf, PairsOf}
 use Rattle.derivation.specs.Collected.{Slotted, Deep}

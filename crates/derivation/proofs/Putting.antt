@@ -23,7 +23,7 @@ use Rattle.derivation.specs.declared.entry.Entry.{Entry}
 use Rattle.derivation.specs.declared.entry.Entry.the-variants.{Nothing, Functional, Disjoint, Above, Taker, Asserted, TwoRoles, ThreeRoles, Same, Edge}
 use Rattle.derivation.proofs.entry.Entry.{the-type}
 use Rattle.said.proofs.enter.Says.{alike}
-use Rattle.saturation.proofs.Adding.{labels-then}
+use Rattle.tables.proofs.same.Labelling.{labels-then}
 use Rattle.derivation.specs.Entering.{Rooms, WithSaid, Added}
 
 -- ---- one entry, by its kind

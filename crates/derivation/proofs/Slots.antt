@@ -19,9 +19,9 @@ use Rattle.rows.specs.Row.{has}
 use Rattle.rules.specs.Fact.{edge, type}
 use Rattle.rules.specs.Rule.{some}
 use Rattle.rules.specs.Brought.{concept, Value, Shape, atomic, nominal, conjunction, existential, other, shape, leaves, classOf, fillerValue, valueIn, atomicOf, valueOf, atomics, values}
-use Rattle.rules.proofs.Tests.{false-true, or-cases, or-left, or-right, and-both, and-intro}
+use Rattle.rules.proofs.Tests.{false-true, both-ways, or-cases, or-left, or-right, and-both, and-intro}
 use Rattle.tables.specs.Leaf.{kindIn}
-use Rattle.saturation.proofs.Members.{both-ways, Member, member, some-map, some-same, some-from}
+use Rattle.tables.proofs.Members.{Member, member, some-map, some-same, some-from}
 use Rattle.derivation.specs.Fits.{leadsFrom, leadsTo, bearer, classIn, roleIn, classFits, valueFits, toldFits, bringFits}
 use Rattle.derivation.specs.Tables.{noSlot, valueSlot, shapeSlot, slotTree, slotOf, leafHas, ConceptsOf}
 use Rattle.derivation.proofs.Fitting.{type-class}

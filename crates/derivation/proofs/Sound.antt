@@ -1,4 +1,5 @@
--- A row that stands has its fact in the smallest sets of the book, and a clash row that stands means that the book clashes.
+-- A row that stands has its fact in the smallest sets of the book, and so a joining row is a same pair; a clash row that stands means that the book
+-- clashes.
 use Prim.Native.Nat.{ℕ, zero, suc, _<_}
 use native.Mathlib.Decide.{ℕ-discrete}
 use native.Mathlib.Omega.{arith}
@@ -13,22 +14,24 @@ use Rattle.book.specs.Read.{pick}
 use Rattle.book.specs.Book.{Book, accepted, decode}
 use Rattle.book.specs.Within.{Every}
 use Rattle.book.specs.declared.statement.Axiom.{Axiom}
+use Rattle.rules.specs.Fact.{pair}
 use Rattle.rules.specs.Rule.{Set, Obeys, yields}
 use Rattle.rules.specs.Meaning.{ruleOf, rules, conclusions}
+use Rattle.rules.specs.Same.{samePair}
 use Rattle.rules.specs.Clash.{clashes}
 use Rattle.rules.specs.Applied.{In}
 use Rattle.rules.specs.World.{World, Fits}
-use Rattle.rules.proofs.Tests.{false-true, or-cases, and-both, every-some}
+use Rattle.rules.proofs.Tests.{false-true, or-cases, and-both, and-intro, every-some}
 use Rattle.rules.proofs.Least.{yields-in, obeys-every}
-use Rattle.rules.proofs.Inside.{accepted-inside}
+use Rattle.rules.proofs.Inside.{Inside, accepted-inside}
 use Rattle.rules.proofs.Conclusions.{conclusions-obey}
-use Rattle.rules.proofs.Sound.{truth, conclusions-true}
+use Rattle.rules.proofs.Sound.{truth, conclusions-true, to-pair}
 use Rattle.book.specs.declared.statement.Axiom.the-variants.{SubClassOf, EquivalentClasses, DisjointClasses, InverseObjectProperties, SubObjectPropertyOf, TransitiveRole, SymmetricRole, FunctionalRole, InverseFunctionalRole, ObjectPropertyDomain, ObjectPropertyRange, SameIndividual, ClassAssertion, ObjectPropertyAssertion}
 use Rattle.book.specs.Role.{flipped}
 use Rattle.derivation.specs.declared.row.Row.{Row}
-use Rattle.derivation.specs.Rows.{none, rowAt, Claim, fact, clash, nothing, says, saysRow, before, named, earlier}
+use Rattle.derivation.specs.Rows.{none, rowAt, Claim, fact, clash, nothing, claim, says, saysRow, before, named, earlier}
 use Rattle.derivation.specs.Accept.{statements, ruleNumber, useOf, member, byAxiom, byStatement, sharingBoth, bySharing, byClash, follows, claimAt, accepts, standing, stands}
-use Rattle.derivation.proofs.Mono.{clashes-up, sharing-both, merge-other}
+use Rattle.derivation.proofs.Mono.{clashes-up, sharing-both, join-other}
 
 -- what a row claims is right: the fact is in the set, the set clashes
 abbrev pub Right : Book → Set → Claim → Type 0
@@ -50,16 +53,16 @@ use-obeys B S (InverseObjectProperties r s) o = o
 use-obeys B S (SubObjectPropertyOf p t) o = o
 use-obeys B S (TransitiveRole r) o = o
 use-obeys B S (SymmetricRole r) o = o
-use-obeys B S (FunctionalRole r) o = merge-other S (B .counts .individuals) (B .counts .classes) r o
-use-obeys B S (InverseFunctionalRole r) o = merge-other S (B .counts .individuals) (B .counts .classes) (flipped r) o
+use-obeys B S (FunctionalRole r) o = join-other S (B .counts .individuals) r o
+use-obeys B S (InverseFunctionalRole r) o = join-other S (B .counts .individuals) (flipped r) o
 use-obeys B S (ObjectPropertyDomain r c) o = o
 use-obeys B S (ObjectPropertyRange r c) o = o
-use-obeys B S (SameIndividual a b) o = o
+use-obeys B S (SameIndividual a b) o = λ k l. absurd (omega arith)
 use-obeys B S (ClassAssertion c i) o = o
 use-obeys B S (ObjectPropertyAssertion r a b) o = o
 
 -- what follows from a part of a set that obeys the rules is right of the set
-module _ (B : Book) (P S : Set) (obeys : Obeys (rules B) S) (within : In P S) (r : Row) where
+module _ (B : Book) (inside : Inside B) (P S : Set) (obeys : Obeys (rules B) S) (within : In P S) (r : Row) where
   statement-right : (f : ℕ) → byStatement B r P f ≡ true → S f ≡ true
   unfolding byStatement rules
   statement-right f e =
@@ -68,10 +71,10 @@ module _ (B : Book) (P S : Set) (obeys : Obeys (rules B) S) (within : In P S) (r
       yields-in (useOf B (x .0)) P S (use-obeys B S (x .0) (x .1)) within f (and-both (eqb (ruleNumber (x .0)) (r .rule)) (yields (useOf B (x .0)) P f) (x .2) .1)
 
   sharing-right : (f : ℕ) → bySharing B r P f ≡ true → S f ≡ true
-  unfolding bySharing rules
+  unfolding bySharing
   sharing-right f e =
       let a = and-both (eqb (r .rule) 6) (eqb (r .statement) none && yields (sharingBoth B) P f) e in
-      yields-in (sharingBoth B) P S (sharing-both B S (obeys .1)) within f (and-both (eqb (r .statement) none) (yields (sharingBoth B) P f) (a .1) .1)
+      yields-in (sharingBoth B) P S (sharing-both B inside S obeys) within f (and-both (eqb (r .statement) none) (yields (sharingBoth B) P f) (a .1) .1)
 
   clash-right : byClash B r P ≡ true → clashes B S ≡ true
   unfolding byClash
@@ -87,7 +90,7 @@ says-in B S (fact g) h f e = subst (λ (x : ℕ). S x ≡ true) (sym (eqb-true f
 says-in B S clash h f e = false-true e
 says-in B S nothing h f e = false-true e
 
-module _ (B : Book) (S : Set) (obeys : Obeys (rules B) S) (l : List ℕ) where
+module _ (B : Book) (inside : Inside B) (S : Set) (obeys : Obeys (rules B) S) (l : List ℕ) where
   -- the rows that a row names
   module _ (k : ℕ) (right : (j : ℕ) → j < k → Right B S (claimAt B l j)) where
     row-in : (x : ℕ) → before k x ≡ true → In (says (saysRow (B .counts) l x)) S
@@ -108,7 +111,7 @@ module _ (B : Book) (S : Set) (obeys : Obeys (rules B) S) (l : List ℕ) where
     unfolding accepts
     accepts-right e =
         let a = and-both (earlier k (rowAt l k)) _ e in
-        follows-right B (named (B .counts) l (rowAt l k)) S obeys (named-in (rowAt l k) (a .0)) (rowAt l k) (claimAt B l k) (a .1)
+        follows-right B inside (named (B .counts) l (rowAt l k)) S obeys (named-in (rowAt l k) (a .0)) (rowAt l k) (claimAt B l k) (a .1)
 
   -- rows that are accepted, each where those before it are
   pub rows-right : (m : ℕ) → ((k : ℕ) → k < m → accepts B l k ≡ true) → (k : ℕ) → k < m → Right B S (claimAt B l k)
@@ -134,12 +137,44 @@ standing-accepted B l (suc n) k h = go (eqb (standing B l n) n) (accepts B l n) 
     go true false e f q r = r q
     go false b e f q r = r q
 
+-- a joining row that is right: two of the book's individuals, the lower number first, and their pair
+pub record Joined (B : Book) (S : Set) (i j : ℕ) : Type 0 where
+  pub order : ltb i j ≡ true
+  pub low : j < B .counts .individuals
+  pub pairs : S (pair i j) ≡ true
+
+joining-right : (B : Book) (S : Set) (r : Row) → r .kind ≡ 3 → Right B S (claim (B .counts) r) → Joined B S (r .one) (r .two)
+unfolding claim
+joining-right B S r e =
+    rw e λ x. go (ltb (r .one) (r .two)) (ltb (r .two) (B .counts .individuals)) (eqb (r .three) none) refl refl x
+  where
+    go : (a b c : Bool) → ltb (r .one) (r .two) ≡ a → ltb (r .two) (B .counts .individuals) ≡ b
+        → Right B S (pick (a && (b && c)) (fact (pair (r .one) (r .two))) nothing) → Joined B S (r .one) (r .two)
+    go true true true p q x = record { order = p; low = ltb-true (r .two) _ q; pairs = x }
+    go true true false p q x = absurd x
+    go true false c p q x = absurd x
+    go false b c p q x = absurd x
+
 module _ (s : List ℕ) (B : Book) (book : decode s ≡ accepted B) (l : List ℕ) where
   -- THE theorem of the checker
   pub stands-right : (k : ℕ) → k < stands B l → Right B (conclusions B) (claimAt B l k)
   unfolding stands
-  stands-right = rows-right B (conclusions B) (conclusions-obey B (accepted-inside s B book)) l _ (standing-accepted B l _)
+  stands-right = rows-right B (accepted-inside s B book) (conclusions B) (conclusions-obey B (accepted-inside s B book)) l _ (standing-accepted B l _)
 
   -- so what it accepts is true in every world that fits
   pub stands-true : (W : World) → Fits W B → (k f : ℕ) → k < stands B l → claimAt B l k ≡ fact f → truth W f ≡ true
   stands-true W fits k f h e = conclusions-true W B (accepted-inside s B book) fits f (subst (Right B (conclusions B)) e (stands-right k h))
+
+  -- a joining row that stands is a same pair, and two names of one thing in every world that fits
+  stands-joined : (k : ℕ) → k < stands B l → rowAt l k .kind ≡ 3 → Joined B (conclusions B) (rowAt l k .one) (rowAt l k .two)
+  stands-joined k h e = joining-right B (conclusions B) (rowAt l k) e (stands-right k h)
+
+  pub stands-same : (k : ℕ) → k < stands B l → rowAt l k .kind ≡ 3 → samePair (conclusions B) (rowAt l k .one) (rowAt l k .two) ≡ true
+  unfolding samePair
+  stands-same k h e = let j = stands-joined k h e in and-intro _ _ (j .order) (j .pairs)
+
+  pub stands-equal : (W : World) → Fits W B → (k : ℕ) → k < stands B l → rowAt l k .kind ≡ 3 → W .ind (rowAt l k .one) ≡ W .ind (rowAt l k .two)
+  stands-equal W fits k h e =
+      let j = stands-joined k h e in
+      let inside = accepted-inside s B book in
+      to-pair W B inside (rowAt l k .one) (rowAt l k .two) (j .low) (conclusions-true W B inside fits (pair (rowAt l k .one) (rowAt l k .two)) (j .pairs))

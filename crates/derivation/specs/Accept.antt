@@ -1,6 +1,6 @@
 -- When a row is accepted, and how many stand.
 use Prim.Native.Nat.{ℕ, zero, suc, _/_}
-use mathlib.Core.Bool.{Bool, false, not, _&&_, _||_}
+use mathlib.Core.Bool.{Bool, false, _&&_, _||_}
 use mathlib.Core.List.{List, [], _∷_}
 use lib.ListN.{length}
 use lib.Dec.{eqb, ltb}
@@ -11,7 +11,7 @@ use Rattle.book.specs.declared.role.Role.{Role}
 use Rattle.book.specs.declared.role.Role.the-variants.{Named}
 use Rattle.book.specs.declared.statement.Axiom.{Axiom}
 use Rattle.book.specs.declared.statement.Axiom.the-variants.{SubClassOf, EquivalentClasses, DisjointClasses, InverseObjectProperties, SubObjectPropertyOf, TransitiveRole, SymmetricRole, FunctionalRole, InverseFunctionalRole, ObjectPropertyDomain, ObjectPropertyRange, SameIndividual, ClassAssertion, ObjectPropertyAssertion}
-use Rattle.rules.specs.Fact.{edge, type}
+use Rattle.rules.specs.Fact.{edge, type, pair}
 use Rattle.rules.specs.Rule.{Set, Rule, keep, when, each, both, given, some, yields}
 use Rattle.rules.specs.ToldSame.{same}
 use Rattle.rules.specs.Meaning.{ruleOf}
@@ -41,14 +41,12 @@ ruleNumber (SameIndividual a b) = 6
 ruleNumber (ClassAssertion c i) = 1
 ruleNumber (ObjectPropertyAssertion r a b) = 1
 
--- Rule 7, over n individuals and k classes: what one filler of a subject under r has, every different one has.
-abbrev pub mergeOther : ℕ → ℕ → Role → Rule
-mergeOther n k r =
-    each n λ a. each n λ b. when (edge r a b) (each n λ c. when (edge r a c)
-    (given (not (eqb b c)) (each k λ d. when (type b d) (keep (type c d)))))
+-- Rule 7, over n individuals: two different fillers of one subject under r are joined, the lower number first.
+abbrev pub joinOther : ℕ → Role → Rule
+joinOther n r = each n λ a. each n λ b. when (edge r a b) (each n λ c. when (edge r a c) (given (ltb b c) (keep (pair b c))))
 
--- One use of a statement's rule. It is that of the smallest sets, but for rule 7, which asks here that the two fillers differ: for one filler taken twice
--- the fact that follows is the one that is named.
+-- One use of a statement's rule. It is that of the smallest sets, but for rule 7, which joins two fillers that differ, the lower number first, as a joining
+-- row has its numbers; and told-same statements give no row: told classes are known.
 abbrev pub useOf : Book → Axiom → Rule
 useOf B (SubClassOf c d) = ruleOf B (SubClassOf c d)
 useOf B (EquivalentClasses c d) = ruleOf B (EquivalentClasses c d)
@@ -57,11 +55,11 @@ useOf B (InverseObjectProperties r s) = ruleOf B (InverseObjectProperties r s)
 useOf B (SubObjectPropertyOf p t) = ruleOf B (SubObjectPropertyOf p t)
 useOf B (TransitiveRole r) = ruleOf B (TransitiveRole r)
 useOf B (SymmetricRole r) = ruleOf B (SymmetricRole r)
-useOf B (FunctionalRole r) = mergeOther (B .counts .individuals) (B .counts .classes) r
-useOf B (InverseFunctionalRole r) = mergeOther (B .counts .individuals) (B .counts .classes) (flipped r)
+useOf B (FunctionalRole r) = joinOther (B .counts .individuals) r
+useOf B (InverseFunctionalRole r) = joinOther (B .counts .individuals) (flipped r)
 useOf B (ObjectPropertyDomain r c) = ruleOf B (ObjectPropertyDomain r c)
 useOf B (ObjectPropertyRange r c) = ruleOf B (ObjectPropertyRange r c)
-useOf B (SameIndividual a b) = ruleOf B (SameIndividual a b)
+useOf B (SameIndividual a b) = each 0 keep
 useOf B (ClassAssertion c i) = ruleOf B (ClassAssertion c i)
 useOf B (ObjectPropertyAssertion r a b) = ruleOf B (ObjectPropertyAssertion r a b)
 
@@ -79,16 +77,20 @@ byAxiom B n P f s = eqb (ruleNumber s) n && yields (useOf B s) P f
 unfoldable pub byStatement : Book → Row → Set → ℕ → Bool
 byStatement B r P f = some (member (statements B) (r .statement)) (byAxiom B (r .rule) P f)
 
--- rule 6, both ends at once; an individual is in its own told-same class
+-- i is changed to j: inside one told class for nothing (an individual is in its own), and else by the joining row of the two
+abbrev pub across : Book → ℕ → ℕ → Rule → Rule
+across B i j R = both (given (same B i j) R) (both (when (pair i j) R) (when (pair j i) R))
+
+-- rule 6, both ends at once
 abbrev pub sharingBoth : Book → Rule
 sharingBoth B =
-    both (each (B .counts .individuals) λ i. each (B .counts .individuals) λ j. given (same B i j)
+    both (each (B .counts .individuals) λ i. each (B .counts .individuals) λ j. across B i j
     (each (B .counts .classes) λ c. when (type i c) (keep (type j c))))
-    (each (B .counts .individuals) λ i. each (B .counts .individuals) λ j. given (same B i j)
-    (each (B .counts .individuals) λ a. each (B .counts .individuals) λ b. given (same B a b)
+    (each (B .counts .individuals) λ i. each (B .counts .individuals) λ j. across B i j
+    (each (B .counts .individuals) λ a. each (B .counts .individuals) λ b. across B a b
     (each (B .counts .roles) λ r. when (edge (Named r) i a) (keep (edge (Named r) j b)))))
 
--- rule 6 names no statement: the told-same classes are known
+-- rule 6 names no statement: the told classes are known, and what is found has its rows
 unfoldable pub bySharing : Book → Row → Set → ℕ → Bool
 bySharing B r P f = eqb (r .rule) 6 && (eqb (r .statement) none && yields (sharingBoth B) P f)
 

@@ -13,7 +13,7 @@ use Rattle.book.specs.declared.statement.SubRolePath.{SubRolePath}
 use Rattle.book.specs.declared.statement.SubRolePath.the-variants.{One, Two, Three}
 use Rattle.book.specs.declared.statement.Axiom.{Axiom}
 use Rattle.book.specs.declared.statement.Axiom.the-variants.{SubClassOf, EquivalentClasses, DisjointClasses, InverseObjectProperties, SubObjectPropertyOf, TransitiveRole, SymmetricRole, FunctionalRole, InverseFunctionalRole, ObjectPropertyDomain, ObjectPropertyRange, SameIndividual, ClassAssertion, ObjectPropertyAssertion}
-use Rattle.rules.specs.Fact.{edge, type, Two as Pair}
+use Rattle.rules.specs.Fact.{edge, type, pair, Two as Pair}
 use Rattle.rules.specs.Rule.{some}
 use Rattle.rules.specs.Brought.{concept, atomicOf, atomics, values}
 use Rattle.rules.specs.ToldSame.{same}
@@ -89,11 +89,11 @@ domainFits n r e f g = isEdge n r g && classFits e (leadsFrom r g) f
 unfoldable pub rangeFits : ℕ → Role → Concept → ℕ → ℕ → Bool
 rangeFits n r e f g = isEdge n r g && classFits e (leadsTo r g) f
 
--- rule 7, over m classes
-unfoldable pub mergeFits : ℕ → ℕ → Role → ℕ → ℕ → ℕ → ℕ → Bool
-mergeFits n m r f g h k =
-    isEdge n r g && (isEdge n r h && (eqb (leadsFrom r g) (leadsFrom r h) && (not (eqb (leadsTo r g) (leadsTo r h))
-    && (ltb (classIn k) m && (eqb k (type (leadsTo r g) (classIn k)) && eqb f (type (leadsTo r h) (classIn k)))))))
+-- rule 7: the fillers of two edges of one subject, the lower number first
+unfoldable pub joinFits : ℕ → Role → ℕ → ℕ → ℕ → Bool
+joinFits n r f g h =
+    isEdge n r g && (isEdge n r h && (eqb (leadsFrom r g) (leadsFrom r h)
+    && (ltb (leadsTo r g) (leadsTo r h) && eqb f (pair (leadsTo r g) (leadsTo r h)))))
 
 unfoldable pub fits : Book → Axiom → ℕ → ℕ → ℕ → ℕ → Bool
 fits B (SubClassOf c d) f g h k = bringFits (B .counts .individuals) (concept B c) (concept B d) f g
@@ -104,31 +104,40 @@ fits B (InverseObjectProperties r s) f g h k = swapFits (B .counts .individuals)
 fits B (SubObjectPropertyOf p t) f g h k = pathFits (B .counts .individuals) p t f g h k
 fits B (TransitiveRole r) f g h k = twoFits (B .counts .individuals) r r r f g h
 fits B (SymmetricRole r) f g h k = swapFits (B .counts .individuals) r r f g
-fits B (FunctionalRole r) f g h k = mergeFits (B .counts .individuals) (B .counts .classes) r f g h k
-fits B (InverseFunctionalRole r) f g h k = mergeFits (B .counts .individuals) (B .counts .classes) (flipped r) f g h k
+fits B (FunctionalRole r) f g h k = joinFits (B .counts .individuals) r f g h
+fits B (InverseFunctionalRole r) f g h k = joinFits (B .counts .individuals) (flipped r) f g h
 fits B (ObjectPropertyDomain r c) f g h k = domainFits (B .counts .individuals) r (concept B c) f g
 fits B (ObjectPropertyRange r c) f g h k = rangeFits (B .counts .individuals) r (concept B c) f g
 fits B (SameIndividual a b) f g h k = false
 fits B (ClassAssertion c i) f g h k = toldFits (concept B c) i f
 fits B (ObjectPropertyAssertion r a b) f g h k = eqb f (edge r a b)
 
--- rule 6
-unfoldable pub shareTypes : Counts → Book → ℕ → ℕ → Bool
-shareTypes h B f g =
+-- whether x is the joining of i and j, whichever has the lower number
+abbrev pub joins : ℕ → ℕ → ℕ → Bool
+joins i j x = eqb x (pair i j) || eqb x (pair j i)
+
+-- rule 6 changes i to j: inside one told class, or by the joining x of the two
+unfoldable pub changes : Book → ℕ → ℕ → ℕ → Bool
+changes B i j x = same B i j || joins i j x
+
+-- rule 6, from the fact g: a type, by the joining x
+unfoldable pub shareTypes : Counts → Book → ℕ → ℕ → ℕ → Bool
+shareTypes h B f g x =
     ltb (bearer g) (h .individuals) && (ltb (bearer f) (h .individuals) && (ltb (classIn g) (h .classes)
-    && (eqb g (type (bearer g) (classIn g)) && (eqb f (type (bearer f) (classIn g)) && same B (bearer g) (bearer f)))))
+    && (eqb g (type (bearer g) (classIn g)) && (eqb f (type (bearer f) (classIn g)) && changes B (bearer g) (bearer f) x))))
 
 -- the role of an edge
 abbrev pub roleIn : ℕ → ℕ
 roleIn g = g / 262144
 
-unfoldable pub shareEdges : Counts → Book → ℕ → ℕ → Bool
-shareEdges h B f g =
+-- and an edge: the end that it leads from by the joining x, the other by y
+unfoldable pub shareEdges : Counts → Book → ℕ → ℕ → ℕ → ℕ → Bool
+shareEdges h B f g x y =
     ltb (roleIn g) (h .roles) && (isEdge (h .individuals) (Named (roleIn g)) g && (isEdge (h .individuals) (Named (roleIn g)) f
-    && (same B (leadsFrom (Named 0) g) (leadsFrom (Named 0) f) && same B (leadsTo (Named 0) g) (leadsTo (Named 0) f))))
+    && (changes B (leadsFrom (Named 0) g) (leadsFrom (Named 0) f) x && changes B (leadsTo (Named 0) g) (leadsTo (Named 0) f) y)))
 
-unfoldable pub shareFits : Counts → Book → ℕ → ℕ → Bool
-shareFits h B f g = shareTypes h B f g || shareEdges h B f g
+unfoldable pub shareFits : Counts → Book → ℕ → ℕ → ℕ → ℕ → Bool
+shareFits h B f g x y = shareTypes h B f g x || shareEdges h B f g x y
 
 -- whether what has the class a has the marker (r, c)
 abbrev pub bringsMark : Book → ℕ → ℕ → ℕ → Bool

@@ -19,7 +19,7 @@ use Rattle.derivation.specs.declared.check.Judgement.{Judgement}
 use Rattle.derivation.specs.declared.check.Judgement.the-variants.{Standing, Refused}
 use Rattle.derivation.specs.Rows.{none}
 use Rattle.derivation.specs.Accept.{statements, ruleNumber, member, Judged, standRows, faultyBook}
-use Rattle.derivation.specs.Fits.{fits, shareFits, clashFits, oneOfThree, anyOrder, anyTwo}
+use Rattle.derivation.specs.Fits.{fits, shareFits, clashFits, anyOrder, anyTwo}
 use Rattle.derivation.specs.Tables.{Concepts, ConceptsOf, LabelsOf, PairsOf, Starts}
 
 -- the tables of concepts and of statements, ready for a row
@@ -72,7 +72,7 @@ unfoldable pub statementFits : Book → Row → ℕ → Premises → Bool
 statementFits B r f p = some (member (statements B) (r .statement)) λ x. eqb (ruleNumber x) (r .rule) && anyOrder (p .one) (p .two) (p .three) (fits B x f)
 
 unfoldable pub sharingFits : Counts → Book → Row → ℕ → Premises → Bool
-sharingFits h B r f p = eqb (r .rule) 6 && (eqb (r .statement) none && oneOfThree (p .one) (p .two) (p .three) (shareFits h B f))
+sharingFits h B r f p = eqb (r .rule) 6 && (eqb (r .statement) none && anyOrder (p .one) (p .two) (p .three) (shareFits h B f))
 
 unfoldable pub clashFitsRow : Counts → Book → Row → Premises → Bool
 clashFitsRow h B r p = eqb (r .rule) 8 && ((eqb (r .statement) none || ltb (r .statement) (h .statements)) && anyTwo (p .one) (p .two) (p .three) (clashFits h B))

@@ -7,7 +7,7 @@ use lib.Dec.{eqb, ltb}
 use Rattle.book.specs.Read.{pick}
 use Rattle.book.specs.declared.header.Counts.{Counts}
 use Rattle.book.specs.declared.role.Role.the-variants.{Named}
-use Rattle.rules.specs.Fact.{edge, type}
+use Rattle.rules.specs.Fact.{edge, type, pair}
 use Rattle.rules.specs.Rule.{Set}
 use Rattle.derivation.specs.declared.row.Row.{Row}
 use Rattle.derivation.specs.declared.row.Premises.{Premises}
@@ -37,8 +37,8 @@ pub data Claim : Type 0 where
   clash : Claim
   nothing : Claim
 
--- a type (kind 0) has an individual and a class, an edge (1) a role and two individuals, a clash (2) none; over the book's own numbers, and none in
--- every unused place
+-- a type (kind 0) has an individual and a class, an edge (1) a role and two individuals, a clash (2) none, a joining (3) two individuals, the lower
+-- number first; over the book's own numbers, and none in every unused place
 abbrev pub typeClaim : Counts → Row → Claim
 typeClaim h r = pick (ltb (r .one) (h .individuals) && (ltb (r .two) (h .classes) && eqb (r .three) none)) (fact (type (r .one) (r .two))) nothing
 
@@ -49,12 +49,16 @@ edgeClaim h r =
 abbrev pub clashClaim : Row → Claim
 clashClaim r = pick (eqb (r .one) none && (eqb (r .two) none && eqb (r .three) none)) clash nothing
 
+abbrev pub pairClaim : Counts → Row → Claim
+pairClaim h r = pick (ltb (r .one) (r .two) && (ltb (r .two) (h .individuals) && eqb (r .three) none)) (fact (pair (r .one) (r .two))) nothing
+
 unfoldable pub claim : Counts → Row → Claim
 claim h r =
     pick (eqb (r .kind) 0) (typeClaim h r)
     (pick (eqb (r .kind) 1) (edgeClaim h r)
     (pick (eqb (r .kind) 2) (clashClaim r)
-    nothing))
+    (pick (eqb (r .kind) 3) (pairClaim h r)
+    nothing)))
 
 -- what an earlier row adds to the facts: its own, if it claims one
 abbrev pub says : Claim → Set

@@ -1,7 +1,7 @@
 -- What the checker's tables say of a book.
 use Prim.Native.Nat.{ℕ, _+_, _*_, _%_, _<_, _≤_}
 use mathlib.Core.Path.{_≡_}
-use mathlib.Core.Bool.{Bool, _&&_}
+use mathlib.Core.Bool.{Bool, _&&_, _||_}
 use mathlib.Core.List.{List, [], _∷_}
 use lib.ListN.{length, getD}
 use lib.Dec.{eqb, ltb}
@@ -22,7 +22,7 @@ use Rattle.rules.specs.Rule.{some}
 use Rattle.rules.specs.Brought.{concept, Value, Shape, atomic, nominal, conjunction, existential, other, shape, leaves, atomicOf, atomics, values}
 use Rattle.rules.specs.ToldSame.{same}
 use Rattle.tables.specs.Leaf.{kindIn, LeafWithin, Leaves}
-use Rattle.derivation.specs.Fits.{pairClash}
+use Rattle.derivation.specs.Fits.{joins, pairClash}
 use Rattle.derivation.specs.Accept.{member}
 
 -- A leaf that tells a fact has a slot: a has-value its role field times 512 plus the individual, an Atomic 65,536 plus its class; all else shares the slot
@@ -78,6 +78,10 @@ pub record ConceptsOf (B : Book) (h : Counts) (L S D : List ℕ) : Type 0 where
 -- of two of n individuals, whether their labels are equal
 unfoldable pub toldSame : ℕ → List ℕ → ℕ → ℕ → Bool
 toldSame n K i j = ltb i n && (ltb j n && eqb (getD K i 0) (getD K j 0))
+
+-- or whether x is their joining
+abbrev pub oneClassBy : ℕ → List ℕ → ℕ → ℕ → ℕ → Bool
+oneClassBy n K i j x = toldSame n K i j || joins i j x
 
 -- told-same labels K
 pub record LabelsOf (B : Book) (h : Counts) (K : List ℕ) : Type 0 where

@@ -1,8 +1,9 @@
-// Facts by number: an edge is (role * 512 + first) * 512 + second, a type 2 ^ 24 + individual * 256 + class.
+// Facts by number: an edge is (role * 512 + first) * 512 + second, a type 2 ^ 24 + individual * 256 + class, a joining behind them 16908288 + one * 512
+// + the other.
 ghost use mathlib.Core.Path.{_≡_};
 ghost use Prim.Native.Nat.{_<_};
 ghost use Rattle.book.specs.Role.{roleId};
-ghost use Rattle.rules.specs.Fact.{edge, type};
+ghost use Rattle.rules.specs.Fact.{edge, type, pair};
 ghost use Rattle.derivation.specs.Fits.{leadsFrom, leadsTo, bearer as bearerOf, classIn, roleIn, isEdge};
 use book::role::Role;
 
@@ -61,6 +62,14 @@ pub fn type_of(i: u32, c: u32) -> u32
     ensures { λ r. ⌜ r ≡ type i c ⌝ }
 {
     16777216 + i * 256 + c
+}
+
+// The joining of i and j.
+pub fn pair_of(i: u32, j: u32) -> u32
+    requires { ⌜ (i < 512) × (j < 512) ⌝ }
+    ensures { λ r. ⌜ r ≡ pair i j ⌝ }
+{
+    16908288 + i * 512 + j
 }
 
 // Whether g is an edge of a role between two of n individuals.

@@ -6,12 +6,13 @@ ghost use Rattle.book.specs.Book.{Book};
 ghost use Rattle.book.specs.Header.{Limits};
 ghost use Rattle.book.specs.Within.{Within};
 ghost use Rattle.derivation.specs.Fits.{fits as fitsBy, shareTypes, shareEdges, shareFits as sharesBy, clashFits as clashesBy, oneOfThree, anyOrder, anyTwo};
-ghost use Rattle.derivation.specs.Tables.{Concepts, ConceptsOf, toldSame, LabelsOf, PairsOf};
+ghost use Rattle.derivation.specs.Tables.{Concepts, ConceptsOf, toldSame, oneClassBy, LabelsOf, PairsOf};
 use super::fact::bearer;
 use super::fact::class_in;
 use super::fact::is_edge;
 use super::fact::leads_from;
 use super::fact::leads_to;
+use super::fact::pair_of;
 use super::fact::role_in;
 use super::fact::type_of;
 use super::row::Premises;
@@ -105,10 +106,18 @@ fn told_same(n: u32, labels: &[u32], i: u32, j: u32) -> bool
     labels[i as usize] == labels[j as usize]
 }
 
-// Rule 6, for types.
-fn share_types(counts: Counts, labels: &[u32], f: u32, g: u32) -> bool
+// Whether rule 6 changes i to j: two of n individuals that are told to be the same, or whose joining is x.
+fn one_class(n: u32, labels: &[u32], i: u32, j: u32, x: u32) -> bool
+    requires { ⌜ (n ≤ length (now labels)) × (i < 512) × (j < 512) ⌝ }
+    ensures { λ r. ⌜ r ≡ oneClassBy n (now (labels .entry)) i j x ⌝ }
+{
+    told_same(n, labels, i, j) | ((x == pair_of(i, j)) | (x == pair_of(j, i)))
+}
+
+// Rule 6, for types: f from g, by the joining x.
+fn share_types(counts: Counts, labels: &[u32], f: u32, g: u32, x: u32) -> bool
     requires { ⌜ Limits counts × (counts .individuals ≤ length (now labels)) ⌝ }
-    ensures { λ x. ⌜ ((B : Book) → LabelsOf B counts (now (labels .entry)) → x ≡ shareTypes counts B f g) ⌝ }
+    ensures { λ r. ⌜ ((B : Book) → LabelsOf B counts (now (labels .entry)) → r ≡ shareTypes counts B f g x) ⌝ }
 {
     let n = counts.individuals as u32;
     let i = bearer(g);
@@ -117,48 +126,82 @@ fn share_types(counts: Counts, labels: &[u32], f: u32, g: u32) -> bool
     (i < n)
         & ((j < n)
             & ((c < counts.classes as u32)
-                & ((g == type_of(i, c)) & ((f == type_of(j, c)) & told_same(n, labels, i, j)))))
+                & ((g == type_of(i, c)) & ((f == type_of(j, c)) & one_class(n, labels, i, j, x)))))
 }
 
-// And for edges.
-fn share_edges(counts: Counts, labels: &[u32], f: u32, g: u32) -> bool
+// And for edges: the first end by the joining x, the second by y.
+fn share_edges(counts: Counts, labels: &[u32], f: u32, g: u32, x: u32, y: u32) -> bool
     requires { ⌜ Limits counts × (counts .individuals ≤ length (now labels)) ⌝ }
-    ensures { λ x. ⌜ ((B : Book) → LabelsOf B counts (now (labels .entry)) → x ≡ shareEdges counts B f g) ⌝ }
+    ensures { λ r. ⌜ ((B : Book) → LabelsOf B counts (now (labels .entry)) → r ≡ shareEdges counts B f g x y) ⌝ }
 {
     let n = counts.individuals as u32;
     let r = role_in(g);
     if r >= counts.roles as u32 {
         return false;
     }
-    let first = told_same(
+    let first = one_class(
         n,
         labels,
         leads_from(Role::Named(0), g),
         leads_from(Role::Named(0), f),
+        x,
     );
-    let second = told_same(
+    let second = one_class(
         n,
         labels,
         leads_to(Role::Named(0), g),
         leads_to(Role::Named(0), f),
+        y,
     );
     is_edge(n, Role::Named(r), g) & (is_edge(n, Role::Named(r), f) & (first & second))
 }
 
-fn share_one(counts: Counts, labels: &[u32], f: u32, g: u32) -> bool
+fn share_one(counts: Counts, labels: &[u32], f: u32, g: u32, x: u32, y: u32) -> bool
     requires { ⌜ Limits counts × (counts .individuals ≤ length (now labels)) ⌝ }
-    ensures { λ x. ⌜ ((B : Book) → LabelsOf B counts (now (labels .entry)) → x ≡ sharesBy counts B f g) ⌝ }
+    ensures { λ r. ⌜ ((B : Book) → LabelsOf B counts (now (labels .entry)) → r ≡ sharesBy counts B f g x y) ⌝ }
 {
-    share_types(counts, labels, f, g) | share_edges(counts, labels, f, g)
+    share_types(counts, labels, f, g, x) | share_edges(counts, labels, f, g, x, y)
 }
 
-// Whether f follows by rule 6 from one of the facts p.
+fn share_third(counts: Counts, labels: &[u32], f: u32, p: Premises, g: u32, x: u32) -> bool
+    requires { ⌜ Limits counts × (counts .individuals ≤ length (now labels)) ⌝ }
+    ensures { λ r. ⌜ ((B : Book) → LabelsOf B counts (now (labels .entry)) → r ≡ oneOfThree (p .one) (p .two) (p .three) (λ y. sharesBy counts B f g x y)) ⌝ }
+{
+    if share_one(counts, labels, f, g, x, p.one) {
+        return true;
+    }
+    if share_one(counts, labels, f, g, x, p.two) {
+        return true;
+    }
+    share_one(counts, labels, f, g, x, p.three)
+}
+
+fn share_second(counts: Counts, labels: &[u32], f: u32, p: Premises, g: u32) -> bool
+    requires { ⌜ Limits counts × (counts .individuals ≤ length (now labels)) ⌝ }
+    ensures { λ r. ⌜ ((B : Book) → LabelsOf B counts (now (labels .entry)) → r ≡ oneOfThree (p .one) (p .two) (p .three) (λ x. oneOfThree (p .one) (p .two) (p .three) (λ y. sharesBy counts B f g x y))) ⌝ }
+{
+    if share_third(counts, labels, f, p, g, p.one) {
+        return true;
+    }
+    if share_third(counts, labels, f, p, g, p.two) {
+        return true;
+    }
+    share_third(counts, labels, f, p, g, p.three)
+}
+
+// Whether f follows by rule 6 from the facts p: a type or an edge among them, and for each end the joining that changes it, or any other where it needs
+// none.
 pub fn share_fits(counts: Counts, labels: &[u32], f: u32, p: Premises) -> bool
     requires { ⌜ Limits counts × (counts .individuals ≤ length (now labels)) ⌝ }
-    ensures { λ x. ⌜ ((B : Book) → LabelsOf B counts (now (labels .entry)) → x ≡ oneOfThree (p .one) (p .two) (p .three) (sharesBy counts B f)) ⌝ }
+    ensures { λ r. ⌜ ((B : Book) → LabelsOf B counts (now (labels .entry)) → r ≡ anyOrder (p .one) (p .two) (p .three) (sharesBy counts B f)) ⌝ }
 {
-    share_one(counts, labels, f, p.one)
-        | (share_one(counts, labels, f, p.two) | share_one(counts, labels, f, p.three))
+    if share_second(counts, labels, f, p, p.one) {
+        return true;
+    }
+    if share_second(counts, labels, f, p, p.two) {
+        return true;
+    }
+    share_second(counts, labels, f, p, p.three)
 }
 
 // Rule 8: two types of one individual whose classes clash.

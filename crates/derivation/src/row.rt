@@ -5,8 +5,9 @@ ghost use Prim.Native.Nat.{_+_, _*_, _≤_};
 ghost use lib.ListN.{length};
 ghost use Prim.Native.Nat.{_<_};
 ghost use Rattle.book.specs.Header.{Limits};
-ghost use Rattle.derivation.specs.Rows.{rowAt, typeClaim, edgeClaim, clashClaim, claim, numberOf, saysRow, factIn, before as beforeRow, earlier, premisesOf};
+ghost use Rattle.derivation.specs.Rows.{rowAt, typeClaim, edgeClaim, clashClaim, pairClaim, claim, numberOf, saysRow, factIn, before as beforeRow, earlier, premisesOf};
 use super::fact::edge_of;
+use super::fact::pair_of;
 use super::fact::type_of;
 use book::header::Counts;
 use book::role::Role;
@@ -60,6 +61,9 @@ pub fn claim_of(counts: Counts, row: Row) -> u32
     if row.kind == 2 {
         return clash_claim(row);
     }
+    if row.kind == 3 {
+        return pair_claim(counts, row);
+    }
     NONE
 }
 
@@ -98,6 +102,20 @@ fn edge_claim(counts: Counts, row: Row) -> u32
         if row.two < counts.individuals as u32 {
             if row.three < counts.individuals as u32 {
                 return edge_of(Role::Named(row.one), row.two, row.three);
+            }
+        }
+    }
+    NONE
+}
+
+fn pair_claim(counts: Counts, row: Row) -> u32
+    requires { ⌜ Limits counts ⌝ }
+    ensures { λ r. ⌜ r ≡ numberOf (pairClaim counts row) ⌝ }
+{
+    if row.one < row.two {
+        if row.two < counts.individuals as u32 {
+            if row.three == NONE {
+                return pair_of(row.one, row.two);
             }
         }
     }

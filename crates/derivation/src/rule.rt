@@ -2,13 +2,12 @@
 ghost use mathlib.Core.Path.{_≡_};
 ghost use Prim.Native.Nat.{_<_};
 ghost use Rattle.book.specs.Role.{roleId};
-ghost use Rattle.derivation.specs.Fits.{swapFits, oneFits, twoFits, threeFits, mergeFits};
-use super::fact::class_in;
+ghost use Rattle.derivation.specs.Fits.{swapFits, oneFits, twoFits, threeFits, joinFits};
 use super::fact::edge_of;
 use super::fact::is_edge;
 use super::fact::leads_from;
 use super::fact::leads_to;
-use super::fact::type_of;
+use super::fact::pair_of;
 use book::role::Role;
 
 // Rule 3: where r leads a to b, s leads b to a.
@@ -69,17 +68,14 @@ pub fn three_fits(
             & (is_edge(n, u, k) & ((b == c) & ((d == i) & (f == edge_of(t, a, j))))))
 }
 
-// Rule 7: two edges of one subject to different fillers, and a type of the first.
-pub fn merge_fits(n: u32, m: u32, r: Role, f: u32, g: u32, h: u32, k: u32) -> bool
+// Rule 7: two edges of one subject, and the joining of their fillers, the lower number first.
+pub fn join_fits(n: u32, r: Role, f: u32, g: u32, h: u32) -> bool
     requires { ⌜ roleId r < 64 ⌝ }
-    ensures { λ x. ⌜ x ≡ mergeFits n m r f g h k ⌝ }
+    ensures { λ x. ⌜ x ≡ joinFits n r f g h ⌝ }
 {
     let a = leads_from(r, g);
     let b = leads_to(r, g);
     let c = leads_from(r, h);
     let d = leads_to(r, h);
-    let e = class_in(k);
-    is_edge(n, r, g)
-        & (is_edge(n, r, h)
-            & ((a == c) & ((b != d) & ((e < m) & ((k == type_of(b, e)) & (f == type_of(d, e)))))))
+    is_edge(n, r, g) & (is_edge(n, r, h) & ((a == c) & ((b < d) & (f == pair_of(b, d)))))
 }

@@ -16,7 +16,7 @@ use super::fact::leads_from;
 use super::fact::leads_to;
 use super::fact::role_in;
 use super::fact::type_of;
-use super::rule::merge_fits;
+use super::rule::join_fits;
 use super::rule::one_fits;
 use super::rule::swap_fits;
 use super::rule::three_fits;
@@ -223,7 +223,6 @@ pub fn fits(
     ensures { λ x. ⌜ ((B : Book) → ConceptsOf B counts (now (leaves .entry)) (now (slots .entry)) (now (deep .entry)) → x ≡ fitsBy B statement f g h k) ⌝ }
 {
     let n = counts.individuals as u32;
-    let m = counts.classes as u32;
     match statement {
         Axiom::SubClassOf { sub, sup } => bring_fits(counts, leaves, slots, deep, sub, sup, f, g),
         Axiom::EquivalentClasses(c, d) => {
@@ -238,8 +237,8 @@ pub fn fits(
         Axiom::SubObjectPropertyOf { sub, sup } => path_fits(n, sub, sup, f, g, h, k),
         Axiom::TransitiveRole(r) => two_fits(n, r, r, r, f, g, h),
         Axiom::SymmetricRole(r) => swap_fits(n, r, r, f, g),
-        Axiom::FunctionalRole(r) => merge_fits(n, m, r, f, g, h, k),
-        Axiom::InverseFunctionalRole(r) => merge_fits(n, m, flip(r), f, g, h, k),
+        Axiom::FunctionalRole(r) => join_fits(n, r, f, g, h),
+        Axiom::InverseFunctionalRole(r) => join_fits(n, flip(r), f, g, h),
         Axiom::ObjectPropertyDomain { role, domain } => domain_fits(
             counts,
             leaves,

@@ -1,27 +1,25 @@
 -- The run that lists a difference: it ends as the run itself does, and where both finish its lists are what the run has and P has not.
-use Prim.Native.Nat.{ℕ, zero, suc, _-_, _*_, _<_}
-use native.Mathlib.Decide.{ℕ-discrete}
+use Prim.Native.Nat.{ℕ, _-_, _*_, _<_}
 use native.Mathlib.Omega.{arith}
 use mathlib.Core.Path.{_≡_, refl, ap, sym, _∙_, subst}
-use mathlib.Core.Bool.{Bool, true, false, not}
-use mathlib.Core.List.{List, [], _∷_, _++_}
+use mathlib.Core.Bool.{Bool, true, false, not, _&&_}
+use mathlib.Core.List.{List, _++_}
 use lib.ListN.{length, replicate}
 use lib.Dec.{ltb}
 use Rattle.book.specs.Read.{pick}
 use Rattle.book.specs.Within.{Every}
 use Rattle.book.specs.Book.{Book, Decoded, refused, accepted}
 use Rattle.book.specs.declared.role.Role.the-variants.{Named}
-use Rattle.rules.specs.Fact.{edge, type, Two, Three, two}
+use Rattle.rules.specs.Fact.{edge, type, pair, Two, Three}
 use Rattle.rules.specs.Rule.{Set}
-use Rattle.rules.specs.Brought.{from}
 use Rattle.rules.specs.Meaning.{conclusions}
 use Rattle.rules.specs.Same.{samePair}
 use Rattle.rules.specs.Clash.{clashes}
-use Rattle.rules.specs.Lists.{gather, only, types, edges, pairs, used, entries2, entries3}
+use Rattle.rules.specs.Lists.{types, edges, pairs, used, entries2, entries3}
 use Rattle.rules.specs.Ends.{Refused, Spent, Clash, Finished, Outcome, untouched, cleared, listing, endsWith, outcomeFrom, onDecoded, outcomeOf, Lists2, Lists3}
-use Rattle.rules.proofs.Tests.{false-true, and-both, and-intro, every-from}
-use Rattle.rules.proofs.Listed.{_∈_, here, there, lists2-true, lists3-true, in-lists2, in-lists3, types-every, edges-every, pairs-every, in-types, in-edges}
-use Rattle.effect.specs.Effect.{Had, less, newPairs, news, difference}
+use Rattle.rules.proofs.Tests.{false-true, and-both, and-intro}
+use Rattle.rules.proofs.Listed.{lists2-true, lists3-true, in-lists2, in-lists3, types-every, edges-every, pairs-every, in-types, in-edges, in-pairs}
+use Rattle.effect.specs.Effect.{less, news, difference}
 
 not-false : (b : Bool) → not b ≡ true → b ≡ false
 not-false true q = false-true q
@@ -31,35 +29,9 @@ false-not : (b : Bool) → b ≡ false → not b ≡ true
 false-not true q = false-true (sym q)
 false-not false q = refl
 
-every-only : {A : Type 0} (P : A → Type 0) (b : Bool) (a : A) → (b ≡ true → P a) → Every P (only b a)
-every-only P true a h = (h refl, tt)
-every-only P false a h = tt
-
--- what is in a list
-module _ {A : Type 0} where
-  in-left : {a : A} {s : List A} (t : List A) → a ∈ s → a ∈ (s ++ t)
-  in-left t (here e) = here e
-  in-left t (there m) = there (in-left t m)
-
-  in-right : {a : A} (s : List A) {t : List A} → a ∈ t → a ∈ (s ++ t)
-  in-right [] m = m
-  in-right (x ∷ s) m = there (in-right s m)
-
-  in-gather : {a : A} (n : ℕ) (f : ℕ → List A) (k : ℕ) → k < n → a ∈ f k → a ∈ gather n f
-  in-gather zero f k l m = absurd (omega arith)
-  in-gather {a} (suc n) f k l m = go (ℕ-discrete k n) (λ q. in-gather n f k q m)
-    where
-      go : Dec (k ≡ n) → (k < n → a ∈ gather n f) → a ∈ (gather n f ++ f n)
-      go (yes e) r = in-right (gather n f) (subst (λ (x : ℕ). a ∈ f x) e m)
-      go (no q) r = in-left (f n) (r (omega arith))
-
-  in-only : (b : Bool) (a : A) → b ≡ true → a ∈ only b a
-  in-only true a e = here refl
-  in-only false a e = false-true e
-
-  in-from : {a : A} (l : List A) (f : A → List A) → a ∈ l → a ∈ f a → a ∈ from l f
-  in-from {a} (x ∷ l) f (here e) m = in-left (from l f) (subst (λ (y : A). a ∈ f y) e m)
-  in-from (x ∷ l) f (there k) m = in-right (f x) (in-from l f k m)
+and-false : (b : Bool) → (b && false) ≡ false
+and-false true = refl
+and-false false = refl
 
 -- a pair of numbers that stands in a list of a known length
 listed2 : (Q : ℕ → ℕ → Type 0) (l : List Two) → Every (λ x. Q (x .one) (x .other)) l → (n : ℕ) (m : List ℕ) → m ≡ entries2 l ++ replicate (n - length (entries2 l)) 0 → (k : ℕ) → length l ≡ k → (a b : ℕ) → Lists2 m k a b → Q a b
@@ -68,16 +40,16 @@ listed2 Q l h n m q k r a b x = lists2-true Q l h _ a b (subst (λ (y : ℕ). Li
 listed3 : (Q : ℕ → ℕ → ℕ → Type 0) (l : List Three) → Every (λ x. Q (x .role) (x .one) (x .other)) l → (n : ℕ) (m : List ℕ) → m ≡ entries3 l ++ replicate (n - length (entries3 l)) 0 → (k : ℕ) → length l ≡ k → (r a b : ℕ) → Lists3 m k r a b → Q r a b
 listed3 Q l h n m q k c r a b x = lists3-true Q l h _ r a b (subst (λ (y : ℕ). Lists3 (entries3 l ++ replicate (n - length (entries3 l)) 0) y r a b) (sym c) (subst (λ (y : List ℕ). Lists3 y k r a b) q x))
 
-module _ (P : Had) (budget : ℕ) (ts es ps : List ℕ) where
+module _ (P : Set) (budget : ℕ) (ts es ps : List ℕ) where
   -- what is listed as new in the set S of the book C
   module _ (C : Book) (S : Set) (o : Outcome) (is : o ≡ news ts es ps C S P) (t e p : ℕ) (ended : o .end ≡ Finished t e p) where
     abbrev n : ℕ
     n = C .counts .individuals
 
     abbrev N : Set
-    N = less S (P .facts)
+    N = less S (P)
 
-    same-end : Finished (length (types C N)) (length (edges C N)) (length (newPairs C S (P .pairs))) ≡ Finished t e p
+    same-end : Finished (length (types C N)) (length (edges C N)) (length (pairs C N)) ≡ Finished t e p
     same-end = sym (ap (λ (x : Outcome). x .end) is) ∙ ended
 
     type-count : length (types C N) ≡ t
@@ -86,52 +58,54 @@ module _ (P : Had) (budget : ℕ) (ts es ps : List ℕ) where
     edge-count : length (edges C N) ≡ e
     edge-count = let q = same-end in cc
 
-    pair-count : length (newPairs C S (P .pairs)) ≡ p
+    pair-count : length (pairs C N) ≡ p
     pair-count = let q = same-end in cc
 
     -- the two halves of being new
-    fresh : (f : ℕ) → N f ≡ true → (S f ≡ true) × (P .facts f ≡ false)
-    fresh f q = let a = and-both (S f) (not (P .facts f)) q in (a .0, not-false (P .facts f) (a .1))
+    fresh : (f : ℕ) → N f ≡ true → (S f ≡ true) × (P f ≡ false)
+    fresh f q = let a = and-both (S f) (not (P f)) q in (a .0, not-false (P f) (a .1))
 
-    newly : (f : ℕ) → S f ≡ true → P .facts f ≡ false → N f ≡ true
-    newly f a b = and-intro (S f) (not (P .facts f)) a (false-not (P .facts f) b)
+    newly : (f : ℕ) → S f ≡ true → P f ≡ false → N f ≡ true
+    newly f a b = and-intro (S f) (not (P f)) a (false-not (P f) b)
 
-    pub new-types : (Q : ℕ → ℕ → Type 0) → ((i c : ℕ) → i < n → c < C .counts .classes → S (type i c) ≡ true → P .facts (type i c) ≡ false → Q i c) → (i c : ℕ) → Lists2 (o .types) t i c → Q i c
+    pub new-types : (Q : ℕ → ℕ → Type 0) → ((i c : ℕ) → i < n → c < C .counts .classes → S (type i c) ≡ true → P (type i c) ≡ false → Q i c) → (i c : ℕ) → Lists2 (o .types) t i c → Q i c
     new-types Q f = listed2 Q (types C N) (types-every C N Q (λ i c k l q. let a = fresh (type i c) q in f i c k l (a .0) (a .1))) (length ts) (o .types) (ap (λ (x : Outcome). x .types) is) t type-count
 
-    pub new-edges : (Q : ℕ → ℕ → ℕ → Type 0) → ((r a b : ℕ) → r < C .counts .roles → a < n → b < n → S (edge (Named r) a b) ≡ true → P .facts (edge (Named r) a b) ≡ false → Q r a b) → (r a b : ℕ) → Lists3 (o .edges) e r a b → Q r a b
+    pub new-edges : (Q : ℕ → ℕ → ℕ → Type 0) → ((r a b : ℕ) → r < C .counts .roles → a < n → b < n → S (edge (Named r) a b) ≡ true → P (edge (Named r) a b) ≡ false → Q r a b) → (r a b : ℕ) → Lists3 (o .edges) e r a b → Q r a b
     new-edges Q f = listed3 Q (edges C N) (edges-every C N Q (λ r a b j k l q. let x = fresh (edge (Named r) a b) q in f r a b j k l (x .0) (x .1))) (length es) (o .edges) (ap (λ (x : Outcome). x .edges) is) e edge-count
 
-    pairs-fresh : (Q : ℕ → ℕ → Type 0) → ((i j : ℕ) → i < n → j < n → samePair C S i j ≡ true → P .pairs i j ≡ false → Q i j) → Every (λ x. Q (x .one) (x .other)) (newPairs C S (P .pairs))
-    unfolding newPairs
-    pairs-fresh Q f =
-        every-from (λ (x : Two). P .pairs (x .one) (x .other) ≡ false → Q (x .one) (x .other)) (λ x. Q (x .one) (x .other)) (λ x. only (not (P .pairs (x .one) (x .other))) x)
-        (λ x g. every-only (λ x. Q (x .one) (x .other)) (not (P .pairs (x .one) (x .other))) x (λ q. g (not-false (P .pairs (x .one) (x .other)) q))) (pairs C S)
-        (pairs-every C S (λ i j. P .pairs i j ≡ false → Q i j) f)
+    pair-fresh : (i j : ℕ) → samePair N i j ≡ true → (samePair S i j ≡ true) × (samePair P i j ≡ false)
+    unfolding samePair
+    pair-fresh i j q =
+        let a = and-both (ltb i j) (N (pair i j)) q in
+        let b = fresh (pair i j) (a .1) in
+        (and-intro (ltb i j) (S (pair i j)) (a .0) (b .0), ap (λ (x : Bool). ltb i j && x) (b .1) ∙ and-false (ltb i j))
 
-    pub new-pairs : (Q : ℕ → ℕ → Type 0) → ((i j : ℕ) → i < n → j < n → samePair C S i j ≡ true → P .pairs i j ≡ false → Q i j) → (i j : ℕ) → Lists2 (o .pairs) p i j → Q i j
-    new-pairs Q f = listed2 Q (newPairs C S (P .pairs)) (pairs-fresh Q f) (length ps) (o .pairs) (ap (λ (x : Outcome). x .pairs) is) p pair-count
+    pair-newly : (i j : ℕ) → samePair S i j ≡ true → samePair P i j ≡ false → samePair N i j ≡ true
+    unfolding samePair
+    pair-newly i j a b =
+        let q = and-both (ltb i j) (S (pair i j)) a in
+        let out : P (pair i j) ≡ false = sym (ap (λ (x : Bool). x && P (pair i j)) (q .0)) ∙ b in
+        and-intro (ltb i j) (N (pair i j)) (q .0) (newly (pair i j) (q .1) out)
+
+    pub new-pairs : (Q : ℕ → ℕ → Type 0) → ((i j : ℕ) → i < n → j < n → samePair S i j ≡ true → samePair P i j ≡ false → Q i j) → (i j : ℕ) → Lists2 (o .pairs) p i j → Q i j
+    new-pairs Q f = listed2 Q (pairs C N) (pairs-every C N Q (λ i j k l q. let a = pair-fresh i j q in f i j k l (a .0) (a .1))) (length ps) (o .pairs) (ap (λ (x : Outcome). x .pairs) is) p pair-count
 
     -- and nothing new is left out
-    pub type-listed : (i c : ℕ) → i < n → c < C .counts .classes → S (type i c) ≡ true → P .facts (type i c) ≡ false → Lists2 (o .types) t i c
+    pub type-listed : (i c : ℕ) → i < n → c < C .counts .classes → S (type i c) ≡ true → P (type i c) ≡ false → Lists2 (o .types) t i c
     type-listed i c k l a b =
         subst (λ (x : List ℕ). Lists2 x t i c) (sym (ap (λ (x : Outcome). x .types) is))
         (subst (λ (x : ℕ). Lists2 (entries2 (types C N) ++ replicate (length ts - length (entries2 (types C N))) 0) x i c) type-count (in-lists2 (types C N) _ i c (in-types C N i c k l (newly (type i c) a b))))
 
-    pub edge-listed : (r a b : ℕ) → r < C .counts .roles → a < n → b < n → S (edge (Named r) a b) ≡ true → P .facts (edge (Named r) a b) ≡ false → Lists3 (o .edges) e r a b
+    pub edge-listed : (r a b : ℕ) → r < C .counts .roles → a < n → b < n → S (edge (Named r) a b) ≡ true → P (edge (Named r) a b) ≡ false → Lists3 (o .edges) e r a b
     edge-listed r a b j k l x y =
         subst (λ (z : List ℕ). Lists3 z e r a b) (sym (ap (λ (z : Outcome). z .edges) is))
         (subst (λ (z : ℕ). Lists3 (entries3 (edges C N) ++ replicate (length es - length (entries3 (edges C N))) 0) z r a b) edge-count (in-lists3 (edges C N) _ r a b (in-edges C N r a b j k l (newly (edge (Named r) a b) x y))))
 
-    in-pairs : (i j : ℕ) → i < n → j < n → samePair C S i j ≡ true → P .pairs i j ≡ false → two i j ∈ newPairs C S (P .pairs)
-    unfolding newPairs pairs
-    in-pairs i j k l a b = in-from (pairs C S) (λ x. only (not (P .pairs (x .one) (x .other))) x) (in-gather n _ i k (in-gather n _ j l (in-only (samePair C S i j) (two i j) a))) (in-only (not (P .pairs i j)) (two i j) (false-not (P .pairs i j) b))
-
-    pub pair-listed : (i j : ℕ) → i < n → j < n → samePair C S i j ≡ true → P .pairs i j ≡ false → Lists2 (o .pairs) p i j
+    pub pair-listed : (i j : ℕ) → i < n → j < n → samePair S i j ≡ true → samePair P i j ≡ false → Lists2 (o .pairs) p i j
     pair-listed i j k l a b =
-        let N = newPairs C S (P .pairs) in
         subst (λ (x : List ℕ). Lists2 x p i j) (sym (ap (λ (x : Outcome). x .pairs) is))
-        (subst (λ (x : ℕ). Lists2 (entries2 N ++ replicate (length ps - length (entries2 N)) 0) x i j) pair-count (in-lists2 N _ i j (in-pairs i j k l a b)))
+        (subst (λ (x : ℕ). Lists2 (entries2 (pairs C N) ++ replicate (length ps - length (entries2 (pairs C N))) 0) x i j) pair-count (in-lists2 (pairs C N) _ i j (in-pairs C N i j k l (pair-newly i j a b))))
 
   abbrev Last : Book → Bool → Bool → Bool → Outcome → Outcome
   Last C a b c o =

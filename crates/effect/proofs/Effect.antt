@@ -22,7 +22,7 @@ use Rattle.rules.proofs.Sound.{to-class, to-leads, conclusions-true}
 use Rattle.rules.proofs.SoundClash.{pair-true}
 use Rattle.rules.proofs.Demand.{demand}
 use Rattle.effect.specs.Copy.{copied, oneRecord, larger, entered, withRecord}
-use Rattle.effect.specs.Effect.{hadBy, had, news, difference, alone, further, Effect, onFinished, byItself, followed, effect}
+use Rattle.effect.specs.Effect.{had, news, difference, alone, further, Effect, onFinished, byItself, followed, effect}
 use Rattle.effect.proofs.Kept.{conclusions-more, pairs-more}
 use Rattle.effect.proofs.Difference.{new-types, new-edges, new-pairs, type-listed, edge-listed, pair-listed, difference-lists, difference-clash}
 use Rattle.effect.proofs.Copied.{copied-is}
@@ -31,10 +31,10 @@ use Rattle.effect.proofs.Copied.{copied-is}
 pub record Exact (B C : Book) (o : Outcome) (t e p : ℕ) : Type 0 where
   pub types : (i c : ℕ) → Lists2 (o .types) t i c → (conclusions C (type i c) ≡ true) × (conclusions B (type i c) ≡ false)
   pub edges : (r a b : ℕ) → Lists3 (o .edges) e r a b → (conclusions C (edge (Named r) a b) ≡ true) × (conclusions B (edge (Named r) a b) ≡ false)
-  pub pairs : (i j : ℕ) → Lists2 (o .pairs) p i j → (samePair C (conclusions C) i j ≡ true) × (samePair B (conclusions B) i j ≡ false)
+  pub pairs : (i j : ℕ) → Lists2 (o .pairs) p i j → (samePair (conclusions C) i j ≡ true) × (samePair (conclusions B) i j ≡ false)
   pub all-types : (i c : ℕ) → i < C .counts .individuals → c < C .counts .classes → conclusions C (type i c) ≡ true → conclusions B (type i c) ≡ false → Lists2 (o .types) t i c
   pub all-edges : (r a b : ℕ) → r < C .counts .roles → a < C .counts .individuals → b < C .counts .individuals → conclusions C (edge (Named r) a b) ≡ true → conclusions B (edge (Named r) a b) ≡ false → Lists3 (o .edges) e r a b
-  pub all-pairs : (i j : ℕ) → i < C .counts .individuals → j < C .counts .individuals → samePair C (conclusions C) i j ≡ true → samePair B (conclusions B) i j ≡ false → Lists2 (o .pairs) p i j
+  pub all-pairs : (i j : ℕ) → i < C .counts .individuals → j < C .counts .individuals → samePair (conclusions C) i j ≡ true → samePair (conclusions B) i j ≡ false → Lists2 (o .pairs) p i j
 
 module _ (s x : List ℕ) (budget : ℕ) (ts es ps us fs qs : List ℕ) where
   abbrev now : Outcome
@@ -83,7 +83,7 @@ module _ (s x : List ℕ) (budget : ℕ) (ts es ps us fs qs : List ℕ) where
     present-demand = subst (Demand B) (sym present-is) (demand s budget ts es ps B book)
 
     -- the difference is that of the book with the statement, or of the record's refusal, to what the present run has
-    pub then-is : then ≡ difference (withRecord B x) (hadBy B) budget us fs qs
+    pub then-is : then ≡ difference (withRecord B x) (conclusions B) budget us fs qs
     then-is =
         ap (λ (d : Decoded). difference d (had (decode s)) budget us fs qs) (copied-is s x B book)
         ∙ ap (λ (d : Decoded). difference (withRecord B x) (had d) budget us fs qs) book
@@ -102,16 +102,16 @@ module _ (s x : List ℕ) (budget : ℕ) (ts es ps us fs qs : List ℕ) where
       within : Inside C
       within = accepted-inside (copied s x) C copy
 
-      -- THE COPY KEEPS every conclusion and every pair of the book: there is no difference but what it adds
+      -- THE COPY KEEPS every conclusion and every same pair of the book: there is no difference but what it adds
       pub copy-keeps : In (conclusions B) (conclusions C)
       copy-keeps =
           let k = copy-larger C copy in
           subst (λ (Z : Book). In (conclusions B) (conclusions Z)) (sym (k .1)) (conclusions-more B (k .0) (accepted-inside s B book) (subst Inside (k .1) within))
 
-      pub copy-keeps-pairs : (i j : ℕ) → samePair B (conclusions B) i j ≡ true → samePair C (conclusions C) i j ≡ true
+      pub copy-keeps-pairs : (i j : ℕ) → samePair (conclusions B) i j ≡ true → samePair (conclusions C) i j ≡ true
       copy-keeps-pairs i j =
           let k = copy-larger C copy in
-          subst (λ (Z : Book). samePair B (conclusions B) i j ≡ true → samePair Z (conclusions Z) i j ≡ true) (sym (k .1)) (pairs-more B (k .0) (accepted-inside s B book) (subst Inside (k .1) within) i j)
+          subst (λ (Z : Book). samePair (conclusions B) i j ≡ true → samePair (conclusions Z) i j ≡ true) (sym (k .1)) (pairs-more B (k .0) (accepted-inside s B book) (subst Inside (k .1) within) i j)
 
       -- where the copy clashes, no world fits it
       pub copy-clash : (t e : ℕ) → whole .copy ≡ further (Clash t e) → NoWorld C
@@ -139,7 +139,7 @@ module _ (s x : List ℕ) (budget : ℕ) (ts es ps us fs qs : List ℕ) where
             go (Clash a b) r = absurd (let o : _≡_ {A = ℕ} 0 1 = cc in omega arith)
             go (Finished a b c) r = (let o : then .end ≡ Finished t e p = cc in o, refl)
 
-        is-news : added ≡ news us fs qs C (conclusions C) (hadBy B)
+        is-news : added ≡ news us fs qs C (conclusions C) (conclusions B)
         is-news =
             let l = difference-lists (had (decode s)) budget us fs qs (decode (copied s x)) t e p (taken .0) in
             let same : l .0 ≡ C = (let z : accepted (l .0) ≡ accepted C = sym (l .1) ∙ copy in cc) in
@@ -153,12 +153,12 @@ module _ (s x : List ℕ) (budget : ℕ) (ts es ps us fs qs : List ℕ) where
         pub difference-exact : Exact B C added t e p
         difference-exact =
             record {
-              types = new-types (hadBy B) budget us fs qs C (conclusions C) added is-news t e p refl _ (λ i c k l a b. (a, b));
-              edges = new-edges (hadBy B) budget us fs qs C (conclusions C) added is-news t e p refl _ (λ r a b j k l u v. (u, v));
-              pairs = new-pairs (hadBy B) budget us fs qs C (conclusions C) added is-news t e p refl _ (λ i j k l a b. (a, b));
-              all-types = type-listed (hadBy B) budget us fs qs C (conclusions C) added is-news t e p refl;
-              all-edges = edge-listed (hadBy B) budget us fs qs C (conclusions C) added is-news t e p refl;
-              all-pairs = pair-listed (hadBy B) budget us fs qs C (conclusions C) added is-news t e p refl;
+              types = new-types (conclusions B) budget us fs qs C (conclusions C) added is-news t e p refl _ (λ i c k l a b. (a, b));
+              edges = new-edges (conclusions B) budget us fs qs C (conclusions C) added is-news t e p refl _ (λ r a b j k l u v. (u, v));
+              pairs = new-pairs (conclusions B) budget us fs qs C (conclusions C) added is-news t e p refl _ (λ i j k l a b. (a, b));
+              all-types = type-listed (conclusions B) budget us fs qs C (conclusions C) added is-news t e p refl;
+              all-edges = edge-listed (conclusions B) budget us fs qs C (conclusions C) added is-news t e p refl;
+              all-pairs = pair-listed (conclusions B) budget us fs qs C (conclusions C) added is-news t e p refl;
             }
 
         -- EACH LISTED DIFFERENCE is true in every world that fits the copy
@@ -166,7 +166,7 @@ module _ (s x : List ℕ) (budget : ℕ) (ts es ps us fs qs : List ℕ) where
         difference-true W fits =
             let sound = conclusions-true W C within fits in
             record {
-              types = new-types (hadBy B) budget us fs qs C (conclusions C) added is-news t e p refl (TypeTrue W) (λ i c k l a b. to-class W C within i c l (sound (type i c) a));
-              edges = new-edges (hadBy B) budget us fs qs C (conclusions C) added is-news t e p refl (EdgeTrue W) (λ r a b j k l u v. unfold leads in to-leads W C within (Named r) a b j k l (sound (edge (Named r) a b) u));
-              pairs = new-pairs (hadBy B) budget us fs qs C (conclusions C) added is-news t e p refl (PairTrue W) (λ i j k l a b. pair-true W C within fits (conclusions C) sound i j k l a);
+              types = new-types (conclusions B) budget us fs qs C (conclusions C) added is-news t e p refl (TypeTrue W) (λ i c k l a b. to-class W C within i c k l (sound (type i c) a));
+              edges = new-edges (conclusions B) budget us fs qs C (conclusions C) added is-news t e p refl (EdgeTrue W) (λ r a b j k l u v. unfold leads in to-leads W C within (Named r) a b j k l (sound (edge (Named r) a b) u));
+              pairs = new-pairs (conclusions B) budget us fs qs C (conclusions C) added is-news t e p refl (PairTrue W) (λ i j k l a b. pair-true W C within fits (conclusions C) sound i j l a);
             }

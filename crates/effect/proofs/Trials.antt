@@ -1,13 +1,8 @@
--- The worked examples hold: each by a computed test. A list of facts that obeys the rules, each drawn from those before it, is the conclusions.
-use Prim.Native.Nat.{ℕ, zero, suc, _<_}
-use native.Mathlib.Decide.{ℕ-discrete}
-use native.Mathlib.Omega.{arith}
-use mathlib.Core.Path.{_≡_, refl, ap, sym, _∙_, subst}
-use mathlib.Core.Bool.{Bool, true, _&&_}
+-- The worked examples hold: each by a computed test.
+use Prim.Native.Nat.{ℕ}
+use mathlib.Core.Path.{_≡_, refl, ap, sym, _∙_}
+use mathlib.Core.Bool.{Bool, true, false, _&&_}
 use mathlib.Core.List.{List, [], _∷_}
-use mathlib.Core.Logic.{⊎-elim}
-use lib.Dec.{eqb}
-use borrow.Author.Tests.{eqb-true}
 use Rattle.book.specs.Role.{roleOf}
 use Rattle.book.specs.Read.{several}
 use Rattle.book.specs.Field.{byte, twoBytes, fourBytes, field, fieldsFrom, fields}
@@ -19,60 +14,28 @@ use Rattle.book.specs.Tree.{partTrees}
 use Rattle.book.specs.Bytes.{headerBytes}
 use Rattle.book.specs.Within.{Every}
 use Rattle.book.specs.Book.{Book, concepts, book, Decoded, refused, accepted, decode}
-use Rattle.rules.specs.Fact.{edge, type}
-use Rattle.rules.specs.Rule.{Set, Rule, keep, when, each, both, Obeys, yields}
+use Rattle.rules.specs.Fact.{edge, type, pair}
+use Rattle.rules.specs.Rule.{Set}
 use Rattle.rules.specs.Brought.{atomics, values, markers}
-use Rattle.rules.specs.ToldSame.{labels, label, same}
 use Rattle.rules.specs.Meaning.{rules, conclusions}
 use Rattle.rules.specs.Same.{samePair}
 use Rattle.rules.specs.Clash.{marked, typeClash, markerClash, clashes}
 use Rattle.rules.specs.Lists.{types, edges, pairs, used}
 use Rattle.rules.specs.Ends.{Outcome, endsWith, outcomeFrom, startsWith, outcomeOf}
-use Rattle.rules.specs.Applied.{In}
 use Rattle.rules.specs.Bars.{nines}
-use Rattle.rules.proofs.Tests.{false-true, or-cases, and-both}
-use Rattle.rules.proofs.Least.{yields-in}
+use Rattle.rules.proofs.Tests.{and-both}
 use Rattle.rules.proofs.Inside.{Inside, accepted-inside}
-use Rattle.rules.proofs.Conclusions.{are-conclusions}
-use Rattle.rules.proofs.Bars.{mem, implies, all, obeys, drawn, outcomeWith, test-facts}
+use Rattle.rules.proofs.Bars.{mem, outcomeWith, test-facts, are-facts}
 use Rattle.effect.specs.Copy.{copied}
-use Rattle.effect.specs.Effect.{Had, nothing, had, newPairs, news, difference, Effect, onFinished, byItself, followed, effect}
+use Rattle.effect.specs.Effect.{had, news, difference, Effect, onFinished, byItself, followed, effect}
 use Rattle.effect.specs.Trials.{Trial, Holds, trials}
 
-implies-true : (a b : Bool) → implies a b ≡ true → a ≡ true → b ≡ true
-implies-true a b e h = subst (λ (x : Bool). implies x b ≡ true) h e
-
-all-true : (n : ℕ) (f : ℕ → Bool) → all n f ≡ true → (k : ℕ) → k < n → f k ≡ true
-all-true zero f e k l = absurd (omega arith)
-all-true (suc n) f e k l = go (ℕ-discrete k n) (λ h. all-true n f (and-both (f n) (all n f) e .1) k h)
-  where
-    go : Dec (k ≡ n) → (k < n → f k ≡ true) → f k ≡ true
-    go (yes q) r = subst (λ (x : ℕ). f x ≡ true) (sym q) (and-both (f n) (all n f) e .0)
-    go (no q) r = r (omega arith)
-
-obeys-true : (R : Rule) (P : Set) → obeys R P ≡ true → Obeys R P
-obeys-true (keep k) P e = e
-obeys-true (when k R) P e = λ h. obeys-true R P (implies-true (P k) (obeys R P) e h)
-obeys-true (each n R) P e = λ k l. obeys-true (R k) P (all-true n (λ x. obeys (R x) P) e k l)
-obeys-true (both R Q) P e = let b = and-both (obeys R P) (obeys Q P) e in (obeys-true R P (b .0), obeys-true Q P (b .1))
-
-drawn-in : (R : Rule) (l : List ℕ) → drawn R l ≡ true → (Q : Set) → Obeys R Q → In (mem l) Q
-drawn-in R [] e Q o f h = false-true h
-drawn-in R (x ∷ l) e Q o f h =
-    let b = and-both (yields R (mem l) x) (drawn R l) e in
-    ⊎-elim (λ q. subst (λ (y : ℕ). Q y ≡ true) (sym (eqb-true f x q)) (yields-in R (mem l) Q o (drawn-in R l (b .1) Q o) x (b .0))) (λ m. drawn-in R l (b .1) Q o f m) (or-cases (eqb f x) (mem l f) h)
-
-are-facts : (B : Book) → Inside B → (l : List ℕ) → test-facts (accepted B) l ≡ true → mem l ≡ conclusions B
-are-facts B inside l t =
-    let f = and-both (obeys (rules B) (mem l)) (drawn (rules B) l) t in
-    are-conclusions B inside (mem l) (obeys-true (rules B) (mem l) (f .0)) (drawn-in (rules B) l (f .1))
-
 -- with listed facts in the place of the conclusions: what a run has, and a difference
-abbrev hadWith : Decoded → Set → Had
-hadWith (refused n) S = nothing
-hadWith (accepted B) S = record { facts = S; pairs = samePair B S }
+abbrev hadWith : Decoded → Set → Set
+hadWith (refused n) S = λ f. false
+hadWith (accepted B) S = S
 
-abbrev differenceWith : Decoded → Set → Had → ℕ → List ℕ → List ℕ → List ℕ → Outcome
+abbrev differenceWith : Decoded → Set → Set → ℕ → List ℕ → List ℕ → List ℕ → Outcome
 differenceWith d S P budget ts es ps = startsWith d budget ts es ps λ B. endsWith B S budget ts es ps (news ts es ps B S P)
 
 module _ (d : Decoded) (inside : (B : Book) → d ≡ accepted B → Inside B) (l : List ℕ) (good : test-facts d l ≡ true) where
@@ -91,7 +54,7 @@ module _ (d : Decoded) (inside : (B : Book) → d ≡ accepted B → Inside B) (
       go (refused n) i g = refl
       go (accepted B) i g = ap (hadWith (accepted B)) (sym (are-facts B (i B refl) l g))
 
-  difference-with : (P : Had) (budget : ℕ) (ts es ps : List ℕ) → difference d P budget ts es ps ≡ differenceWith d (mem l) P budget ts es ps
+  difference-with : (P : Set) (budget : ℕ) (ts es ps : List ℕ) → difference d P budget ts es ps ≡ differenceWith d (mem l) P budget ts es ps
   unfolding difference
   difference-with P budget ts es ps = go d inside good
     where
@@ -125,7 +88,7 @@ row-holds x t q =
     let was = had-with d (accepted-inside (x .book)) (x .facts) (a .0) in
     let then = difference-with e (accepted-inside (copied (x .book) (x .line))) (x .furtherFacts) (a .1) (had d) (x .budget) (nines (x .other .types)) (nines (x .other .edges)) (nines (x .other .pairs)) in
     ap (λ (o : Outcome). by x o (difference e (had d) (x .budget) (nines (x .other .types)) (nines (x .other .edges)) (nines (x .other .pairs)))) now
-    ∙ (ap (by x (first x d)) (then ∙ ap (λ (P : Had). differenceWith e (mem (x .furtherFacts)) P (x .budget) (nines (x .other .types)) (nines (x .other .edges)) (nines (x .other .pairs))) was)
+    ∙ (ap (by x (first x d)) (then ∙ ap (λ (P : Set). differenceWith e (mem (x .furtherFacts)) P (x .budget) (nines (x .other .types)) (nines (x .other .edges)) (nines (x .other .pairs))) was)
     ∙ q)
 
 -- all rows at once
@@ -150,11 +113,11 @@ all-hold (x ∷ xs) e q =
     (row-holds x (a .0) one, all-hold xs (a .1) others)
 
 tests-come-out : tests trials ≡ true
-unfolding trials headerBytes copied roleOf several byte twoBytes fourBytes field fieldsFrom fields statementAllows header conceptStart partList bound conceptTail conceptRest concept statementStart pathOf axiomOf statementEnd statementRest statement partTrees concepts book decode edge type atomics values markers labels label same rules samePair marked typeClash markerClash clashes types edges pairs used outcomeFrom
+unfolding trials headerBytes copied roleOf several byte twoBytes fourBytes field fieldsFrom fields statementAllows header conceptStart partList bound conceptTail conceptRest concept statementStart pathOf axiomOf statementEnd statementRest statement partTrees concepts book decode edge type pair atomics values markers rules samePair marked typeClash markerClash clashes types edges pairs used outcomeFrom
 tests-come-out = refl
 
 effects-come-out : effects trials ≡ expected trials
-unfolding trials headerBytes copied newPairs roleOf several byte twoBytes fourBytes field fieldsFrom fields statementAllows header conceptStart partList bound conceptTail conceptRest concept statementStart pathOf axiomOf statementEnd statementRest statement partTrees concepts book decode edge type atomics values markers labels label same rules samePair marked typeClash markerClash clashes types edges pairs used outcomeFrom
+unfolding trials headerBytes copied roleOf several byte twoBytes fourBytes field fieldsFrom fields statementAllows header conceptStart partList bound conceptTail conceptRest concept statementStart pathOf axiomOf statementEnd statementRest statement partTrees concepts book decode edge type pair atomics values markers rules samePair marked typeClash markerClash clashes types edges pairs used outcomeFrom
 effects-come-out = refl
 
 pub table : Every Holds trials
@@ -163,5 +126,5 @@ table = all-hold trials tests-come-out effects-come-out
 -- ---- the 4,097th statement: 6, by the header alone, and before any fault of the record; the 4,096th is read on
 
 full-header : (decode (copied (0x10 ∷ 0x00 ∷ 0x10 ∷ []) []) ≡ refused 6) × (decode (copied (0x10 ∷ 0xFF ∷ 0x0F ∷ []) []) ≡ refused 4)
-unfolding headerBytes copied roleOf several byte twoBytes fourBytes field fieldsFrom fields statementAllows header conceptStart partList bound conceptTail conceptRest concept statementStart pathOf axiomOf statementEnd statementRest statement partTrees concepts book decode edge type atomics values markers labels label same rules samePair marked typeClash markerClash clashes types edges pairs used outcomeFrom
+unfolding headerBytes copied roleOf several byte twoBytes fourBytes field fieldsFrom fields statementAllows header conceptStart partList bound conceptTail conceptRest concept statementStart pathOf axiomOf statementEnd statementRest statement partTrees concepts book decode edge type pair atomics values markers rules samePair marked typeClash markerClash clashes types edges pairs used outcomeFrom
 full-header = (refl, refl)

@@ -3,7 +3,7 @@ use Prim.Native.Nat.{ℕ}
 use mathlib.Core.Path.{_≡_}
 use mathlib.Core.List.{List, [], _∷_, _++_}
 use Rattle.book.specs.declared.role.Role.the-variants.{Named}
-use Rattle.rules.specs.Fact.{edge, type}
+use Rattle.rules.specs.Fact.{edge, type, pair}
 use Rattle.rules.specs.Ends.{End, Refused, Spent, Clash, Finished, Outcome}
 use Rattle.rules.specs.Bars.{nines, listAfter}
 use Rattle.effect.specs.Effect.{alone, further, Effect, effect}
@@ -130,22 +130,42 @@ third = 0x0E ∷ 0xC1 ∷ 0x00 ∷ 0x00 ∷ 0x00 ∷ 0x00 ∷ 0x00 ∷ 0x03 ∷ 
 abbrev joining : List ℕ
 joining = 0x0C ∷ 0xC0 ∷ 0x00 ∷ 0x00 ∷ 0x00 ∷ 0x01 ∷ 0x00 ∷ []
 
--- the facts of the chain, of the spread and of the plates
+-- each individual is in one class with itself: of two, of three, of four
+abbrev two : List ℕ
+two = pair 1 1 ∷ pair 0 0 ∷ []
+
+abbrev three : List ℕ
+three = pair 2 2 ∷ two
+
+abbrev four : List ℕ
+four = pair 3 3 ∷ three
+
+-- the facts of the chain, of the spread, of the fork and of the plates
 abbrev steps : List ℕ
-steps = edge (Named 0) 1 2 ∷ edge (Named 0) 0 1 ∷ []
+steps = edge (Named 0) 1 2 ∷ edge (Named 0) 0 1 ∷ three
 
 abbrev spokes : List ℕ
-spokes = edge (Named 0) 0 2 ∷ edge (Named 0) 0 1 ∷ []
+spokes = edge (Named 0) 0 2 ∷ edge (Named 0) 0 1 ∷ four
+
+abbrev prongs : List ℕ
+prongs = pair 2 1 ∷ pair 1 2 ∷ spokes
 
 abbrev marks : List ℕ
-marks = type 1 1 ∷ type 0 0 ∷ []
+marks = type 1 1 ∷ type 0 0 ∷ two
+
+-- of the fork with a third filler, and of the plates that became one
+abbrev thrice : List ℕ
+thrice = pair 3 2 ∷ pair 2 3 ∷ pair 3 1 ∷ pair 1 3 ∷ edge (Named 0) 0 3 ∷ prongs
+
+abbrev merged : List ℕ
+merged = type 1 0 ∷ type 0 1 ∷ pair 1 0 ∷ pair 0 1 ∷ marks
 
 -- and what their runs come to
 abbrev chained : Room → Said
 chained r = said r steps (Finished 0 2 0) [] (0 ∷ 0 ∷ 1 ∷ 0 ∷ 1 ∷ 2 ∷ []) []
 
 abbrev forked : Room → Said
-forked r = said r spokes (Finished 0 2 1) [] (0 ∷ 0 ∷ 1 ∷ 0 ∷ 0 ∷ 2 ∷ []) (1 ∷ 2 ∷ [])
+forked r = said r prongs (Finished 0 2 1) [] (0 ∷ 0 ∷ 1 ∷ 0 ∷ 0 ∷ 2 ∷ []) (1 ∷ 2 ∷ [])
 
 abbrev plated : Room → Said
 plated r = said r marks (Finished 2 0 0) (0 ∷ 0 ∷ 1 ∷ 1 ∷ []) [] []
@@ -160,24 +180,24 @@ trials =
     (trial 6 six six chain transitive chained (λ r. said r (edge (Named 0) 0 2 ∷ steps) (Finished 0 1 0) [] (0 ∷ 0 ∷ 2 ∷ []) []))
     -- with a source and a period it acts all the same
     ∷ (trial 6 six six chain (0x06 ∷ 0x01 ∷ 0x07 ∷ 0x00 ∷ 0x00 ∷ 0x09 ∷ 0x00 ∷ 0x01 ∷ 0x00 ∷ 0x02 ∷ 0x00 ∷ []) chained (λ r. said r (edge (Named 0) 0 2 ∷ steps) (Finished 0 1 0) [] (0 ∷ 0 ∷ 2 ∷ []) []))
-    -- 0 and 1 are one: four edges
-    ∷ (trial 6 six six chain joining chained (λ r. said r (edge (Named 0) 1 0 ∷ edge (Named 0) 0 2 ∷ edge (Named 0) 0 0 ∷ edge (Named 0) 1 1 ∷ steps) (Finished 0 4 0) [] (0 ∷ 0 ∷ 0 ∷ 0 ∷ 0 ∷ 2 ∷ 0 ∷ 1 ∷ 0 ∷ 0 ∷ 1 ∷ 1 ∷ []) []))
+    -- 0 and 1 are one: four edges, and the pair
+    ∷ (trial 6 six six chain joining chained (λ r. said r (edge (Named 0) 1 0 ∷ edge (Named 0) 0 2 ∷ edge (Named 0) 0 0 ∷ edge (Named 0) 1 1 ∷ pair 1 0 ∷ pair 0 1 ∷ steps) (Finished 0 4 1) [] (0 ∷ 0 ∷ 0 ∷ 0 ∷ 0 ∷ 2 ∷ 0 ∷ 1 ∷ 0 ∷ 0 ∷ 1 ∷ 1 ∷ []) (0 ∷ 1 ∷ [])))
     -- two plates that become one share their classes
-    ∷ (trial 6 six six plates joining plated (λ r. said r (type 1 0 ∷ type 0 1 ∷ marks) (Finished 2 0 0) (0 ∷ 1 ∷ 1 ∷ 0 ∷ []) [] []))
+    ∷ (trial 6 six six plates joining plated (λ r. said r merged (Finished 2 0 1) (0 ∷ 1 ∷ 1 ∷ 0 ∷ []) [] (0 ∷ 1 ∷ [])))
     -- A is under B
     ∷ (trial 6 six six plates (0x01 ∷ 0x30 ∷ 0x00 ∷ 0x00 ∷ 0x00 ∷ 0x01 ∷ 0x00 ∷ []) plated (λ r. said r (type 0 1 ∷ marks) (Finished 1 0 0) (0 ∷ 1 ∷ []) [] []))
     -- a statement that is there already: nothing is new
     ∷ (trial 6 six six chain (0x0E ∷ 0xC1 ∷ 0x00 ∷ 0x00 ∷ 0x00 ∷ 0x00 ∷ 0x00 ∷ 0x01 ∷ 0x00 ∷ []) chained (bare steps (Finished 0 0 0)))
-    -- a pair may be new though no fact is
-    ∷ (trial 6 six six spread functional (λ r. said r spokes (Finished 0 2 0) [] (0 ∷ 0 ∷ 1 ∷ 0 ∷ 0 ∷ 2 ∷ []) []) (λ r. said r spokes (Finished 0 0 1) [] [] (1 ∷ 2 ∷ [])))
-    -- a third filler: a new edge makes pairs with old ones, and the old pair is not new
-    ∷ (trial 6 six six fork third forked (λ r. said r (edge (Named 0) 0 3 ∷ spokes) (Finished 0 1 2) [] (0 ∷ 0 ∷ 3 ∷ []) (1 ∷ 3 ∷ 2 ∷ 3 ∷ [])))
+    -- a pair may be new though no type and no edge is
+    ∷ (trial 6 six six spread functional (λ r. said r spokes (Finished 0 2 0) [] (0 ∷ 0 ∷ 1 ∷ 0 ∷ 0 ∷ 2 ∷ []) []) (λ r. said r prongs (Finished 0 0 1) [] [] (1 ∷ 2 ∷ [])))
+    -- a third filler: it makes pairs with the old ones, and the old pair is not new
+    ∷ (trial 6 six six fork third forked (λ r. said r thrice (Finished 0 1 2) [] (0 ∷ 0 ∷ 3 ∷ []) (1 ∷ 3 ∷ 2 ∷ 3 ∷ [])))
     -- 11 counts all pairs of the copy: room for the two new ones is too short
-    ∷ (trial 6 six (room 12 18 5) fork third forked (bare (edge (Named 0) 0 3 ∷ spokes) (Refused 11)))
+    ∷ (trial 6 six (room 12 18 5) fork third forked (bare thrice (Refused 11)))
     -- the copy is spent
     ∷ (trial 2 (room 4 6 6) (room 4 6 6) chain transitive chained (bare (edge (Named 0) 0 2 ∷ steps) Spent))
     -- the copy clashes
-    ∷ (trial 6 six six apart joining plated (bare (type 1 0 ∷ type 0 1 ∷ marks) (Clash 4 0)))
+    ∷ (trial 6 six six apart joining plated (bare merged (Clash 4 0)))
     -- 2 of the lists for the difference, though the record is short
     ∷ (trial 6 six (room 12 17 6) chain (0x06 ∷ []) chained (bare [] (Refused 2)))
     -- 2 though 3 is due as well
@@ -205,11 +225,11 @@ trials =
     -- a record's fault though the copy of a good one would be spent
     ∷ (trial 2 (room 4 6 6) (room 4 6 6) chain (0x06 ∷ 0x01 ∷ 0x00 ∷ 0x02 ∷ 0x00 ∷ []) chained (bare [] (Refused 9)))
     -- a book without statements
-    ∷ (trial 6 six six (0x06 ∷ 0x01 ∷ 0x00 ∷ 0x03 ∷ 0x00 ∷ []) (0x0E ∷ 0xC1 ∷ 0x00 ∷ 0x00 ∷ 0x00 ∷ 0x00 ∷ 0x00 ∷ 0x01 ∷ 0x00 ∷ []) (bare [] (Finished 0 0 0)) (λ r. said r (edge (Named 0) 0 1 ∷ []) (Finished 0 1 0) [] (0 ∷ 0 ∷ 1 ∷ []) []))
+    ∷ (trial 6 six six (0x06 ∷ 0x01 ∷ 0x00 ∷ 0x03 ∷ 0x00 ∷ []) (0x0E ∷ 0xC1 ∷ 0x00 ∷ 0x00 ∷ 0x00 ∷ 0x00 ∷ 0x00 ∷ 0x01 ∷ 0x00 ∷ []) (bare three (Finished 0 0 0)) (λ r. said r (edge (Named 0) 0 1 ∷ three) (Finished 0 1 0) [] (0 ∷ 0 ∷ 1 ∷ []) []))
     -- the empty book takes no statement: 9
     ∷ (trial 6 six six (0x00 ∷ []) transitive (bare [] (Finished 0 0 0)) (bare [] (Refused 9)))
     -- nothing is lent for the difference, nor needed: a budget of 0
-    ∷ (trial 0 (room 0 0 0) (room 0 0 0) (0x06 ∷ 0x01 ∷ 0x00 ∷ 0x03 ∷ 0x00 ∷ []) transitive (bare [] (Finished 0 0 0)) (bare [] (Finished 0 0 0)))
+    ∷ (trial 0 (room 0 0 0) (room 0 0 0) (0x06 ∷ 0x01 ∷ 0x00 ∷ 0x03 ∷ 0x00 ∷ []) transitive (bare three (Finished 0 0 0)) (bare three (Finished 0 0 0)))
     -- the present book has a fault: alone
     ∷ (lone 6 six six (0x16 ∷ 0x01 ∷ 0x00 ∷ 0x03 ∷ 0x00 ∷ 0x02 ∷ 0x00 ∷ 0x0E ∷ 0xC1 ∷ 0x00 ∷ 0x00 ∷ 0x00 ∷ 0x00 ∷ 0x00 ∷ 0x03 ∷ 0x00 ∷ 0x0E ∷ 0xC1 ∷ 0x00 ∷ 0x00 ∷ 0x00 ∷ 0x01 ∷ 0x00 ∷ 0x02 ∷ 0x00 ∷ []) transitive (bare [] (Refused 9)) [])
     -- no header: alone
@@ -217,9 +237,9 @@ trials =
     -- the present run is spent: alone
     ∷ (lone 1 (room 2 3 6) (room 2 3 6) chain transitive (bare steps Spent) (edge (Named 0) 0 2 ∷ steps))
     -- the present run clashes: alone, whatever the record
-    ∷ (lone 6 six six clashing [] (bare (type 1 0 ∷ type 0 1 ∷ marks) (Clash 4 0)) [])
+    ∷ (lone 6 six six clashing [] (bare merged (Clash 4 0)) [])
     -- 11 of the present run: alone
-    ∷ (lone 6 (room 12 18 1) six fork third (bare spokes (Refused 11)) (edge (Named 0) 0 3 ∷ spokes))
+    ∷ (lone 6 (room 12 18 1) six fork third (bare prongs (Refused 11)) thrice)
     -- 2 of the present lists: alone
     ∷ (lone 6 (room 12 17 6) (room 12 17 6) chain transitive (bare steps (Refused 2)) (edge (Named 0) 0 2 ∷ steps))
     -- 1: alone

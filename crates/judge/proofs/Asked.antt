@@ -3,22 +3,21 @@ use Prim.Native.Nat.{ℕ, _<_, _≤_}
 use mathlib.Core.Path.{_≡_, ap, sym, _∙_, subst}
 use mathlib.Core.List.{List}
 use lib.ListN.{length}
-use Rattle.book.specs.Book.{Book, Decoded, refused, accepted, decode, BookChecked}
+use Rattle.book.specs.Book.{Book, refused, accepted, decode, BookChecked}
 use Rattle.book.specs.declared.header.Counts.{Counts}
 use Rattle.book.specs.declared.statement.Statement.{Statement}
 use Rattle.book.specs.declared.check.Checked.{Checked}
 use Rattle.book.specs.declared.check.Checked.the-variants.{Refused}
 use Rattle.book.proofs.Accepted.{checked-refused}
+use Rattle.rules.specs.Fact.{pair}
 use Rattle.rules.specs.Rule.{Set}
 use Rattle.rules.specs.Brought.{concept}
-use Rattle.rules.specs.ToldSame.{label, same}
-use Rattle.rules.specs.Meaning.{conclusions}
-use Rattle.rules.specs.Ends.{Outcome, outcomeOf}
+use Rattle.rules.specs.Ends.{outcomeOf}
 use Rattle.rules.specs.Spoken.{Reader, spoken, spokenOf, decodeFor}
 use Rattle.rules.proofs.Ended.{refused-book}
 use Rattle.rules.proofs.Members.{conclusions-same}
 use Rattle.rules.proofs.Spoken.{spoken-inside}
-use Rattle.tables.specs.Open.{bookOf, bookWith, Open}
+use Rattle.tables.specs.Open.{bookOf, Open}
 use Rattle.heed.specs.Names.{readerOf, Ready}
 use Rattle.heed.specs.declared.names.Names.{Names}
 use Rattle.heed.proofs.Laws.{ready-decoded}
@@ -26,12 +25,11 @@ use Rattle.verdict.specs.declared.end.End.the-variants.{Refused as refusal}
 use Rattle.saturation.specs.Run.{heard, heardBook, outcomeOn, Admitted}
 use Rattle.saturation.proofs.run.Closing.{heard-inside}
 use Rattle.saturation.proofs.saturate.Answers.{heard-outcome}
-use Rattle.member.specs.Shown.{shown, oneClass, shownIn}
+use Rattle.member.specs.Shown.{shown, inOneClass, shownIn}
 use Rattle.member.specs.Answer.{Answered, answered, questioned, member, memberFor}
 use Rattle.member.specs.Judgement.{Judgement}
 use Rattle.member.proofs.Judged.{member-refused, member-run, no-individual, no-concept, judgement, judgement-for}
-use Rattle.judge.specs.Answered.{answerOf, gave}
-use Rattle.judge.specs.declared.answer.Answer.{Answer}
+use Rattle.judge.specs.Answered.{gave}
 use Rattle.judge.specs.declared.answer.Answer.the-variants.{Ended}
 
 module _ {budget : ℕ} {ts es : List ℕ} (a : Admitted budget ts es) (ps : List ℕ) (i c : ℕ) where
@@ -62,8 +60,8 @@ module _ {budget : ℕ} {ts es : List ℕ} (a : Admitted budget ts es) (ps : Lis
 
       -- what the run of the statements that count shows is shown of the book spoken of: it differs in the count of its statements alone
       shown-spoken : shownIn (spoken r (bookOf s)) i c ≡ shownIn (heardBook r s) i c
-      unfolding shownIn oneClass same label
-      shown-spoken = ap (λ (X : Set). shown (bookOf s .counts .individuals) X (oneClass (heardBook r s)) (concept (bookOf s) c) i) (conclusions-same (heardBook r s) (length (heard r s)) (heard r s) (λ P k. k) (λ P k. k) (heard-inside r o) (spoken-inside r s (bookOf s) (o .whole)))
+      unfolding shownIn inOneClass
+      shown-spoken = ap (λ (X : Set). shown (bookOf s .counts .individuals) X (λ j b. X (pair j b)) (concept (bookOf s) c) i) (conclusions-same (heardBook r s) (length (heard r s)) (heard r s) (λ P k. k) (λ P k. k) (heard-inside r o) (spoken-inside r s (bookOf s) (o .whole)))
 
       pub own-gave : i < h .individuals → c < h .concepts → answered (shownIn (heardBook (readerOf n table) s) i c) (outcomeOn (heardBook (readerOf n table) s) budget ts es ps) ≡ memberFor (readerOf n table) s budget ts es ps i c
       own-gave k l =

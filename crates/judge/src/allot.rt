@@ -43,7 +43,6 @@ fn small(
     let mut chains = [0u8; 256];
     let mut labels = [0u32; 16];
     let mut leaves = [0u32; 64];
-    let mut p = [0u64; 128];
     let used = draw(
         book,
         offsets,
@@ -55,7 +54,7 @@ fn small(
         &mut labels,
         &mut t,
     );
-    let end = read_off(&t, task, &says, &leaves, &mut p, used, types, edges, pairs);
+    let end = read_off(&t, task, &says, &leaves, &labels, used, types, edges, pairs);
     give_answer(book, offsets, task.counts, &t, &says, question, end)
 }
 
@@ -84,7 +83,6 @@ fn large(
     let mut chains = [0u8; 16384];
     let mut labels = [0u32; 512];
     let mut leaves = [0u32; 4096];
-    let mut p = [0u64; 4096];
     let used = draw(
         book,
         offsets,
@@ -96,7 +94,7 @@ fn large(
         &mut labels,
         t,
     );
-    let end = read_off(t, task, &says, &leaves, &mut p, used, types, edges, pairs);
+    let end = read_off(t, task, &says, &leaves, &labels, used, types, edges, pairs);
     give_answer(book, offsets, task.counts, t, &says, question, end)
 }
 

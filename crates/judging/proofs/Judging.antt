@@ -7,12 +7,10 @@ use native.Mathlib.Decide.{ℕ-discrete}
 use native.Mathlib.Omega.{arith}
 use lib.ListN.{length}
 use borrow.Author.Tests.{eq-eqb, ne-eqb}
-use Rattle.book.specs.Read.{pick}
 use Rattle.book.specs.Field.{numberAt}
 use Rattle.book.specs.Tree.{Concept, nth, partTrees, treeOf}
 use Rattle.book.specs.Within.{ConceptWithin}
 use Rattle.book.specs.declared.header.Counts.{Counts}
-use Rattle.book.specs.declared.concept.Parts.{Parts}
 use Rattle.book.specs.declared.concept.ConceptExpr.{ConceptExpr}
 use Rattle.book.specs.declared.concept.ConceptExpr.the-variants.{Top, Bot, Atomic, Nominal, SelfRestriction, Not, And, Or, Some, All, Min, Max}
 use Rattle.book.proofs.Accepted.{parts-more, parts-none}
@@ -20,9 +18,9 @@ use Rattle.rows.specs.Row.{at, has, Put}
 use Rattle.rules.specs.Fact.{edge}
 use Rattle.rules.specs.Rule.{Set, any}
 use Rattle.rules.specs.Brought.{concept}
+use Rattle.rules.proofs.Tests.{any-same}
 use Rattle.tables.specs.Open.{bookOf}
 use Rattle.tables.proofs.Open.{RecordOf}
-use Rattle.verdict.proofs.verdict.Searches.{any-same}
 use Rattle.member.specs.Shown.{shown, shownAll, shownSome}
 use Rattle.judging.specs.Row.{Holds, Copied}
 use Rattle.judging.specs.Way.{wayOf, countOf, partOf, PartsInside, WayIn, StartIn, RoleIn, mix, startOf, given, rest}

@@ -1,5 +1,5 @@
 -- The laws of src/start.rt: rows that are read off the facts, and how the row of a part is mixed in.
-use Prim.Native.Nat.{ℕ, suc, _+_, _-_, _*_, _%_, _<_, _≤_}
+use Prim.Native.Nat.{ℕ, suc, _+_, _-_, _*_, _<_, _≤_}
 use mathlib.Core.Path.{_≡_, refl, ap, sym, _∙_, subst}
 use mathlib.Core.Bool.{Bool, true, false, _&&_, _||_}
 use mathlib.Core.List.{List}
@@ -9,31 +9,30 @@ use native.Mathlib.Omega.{arith}
 use lib.ListN.{length}
 use lib.Dec.{ltb}
 use borrow.Author.Tests.{lt-ltb, le-ltb}
-use Rattle.book.specs.Role.{roleId, fieldOf, flipped}
+use Rattle.book.specs.Role.{fieldOf, flipped}
 use Rattle.book.specs.Within.{RoleWithin}
+use Rattle.book.proofs.role.Laws.{role-of-field}
 use Rattle.book.specs.declared.header.Counts.{Counts}
 use Rattle.book.specs.declared.role.Role.{Role}
 use Rattle.book.specs.declared.concept.Parts.{Parts}
 use Rattle.book.specs.declared.concept.ConceptExpr.{ConceptExpr}
 use Rattle.book.specs.declared.concept.ConceptExpr.the-variants.{Atomic, Nominal, SelfRestriction}
 use Rattle.rows.specs.Row.{has, Put, Gathered, Composed}
-use Rattle.rows.specs.Table.{base, wide, Table, Can}
+use Rattle.rows.specs.Table.{base, Table, Can}
 use Rattle.rows.specs.Table as table
 use Rattle.rows.specs.declared.table.Size.{Size}
-use Rattle.rows.proofs.table.Sizes.{base-step, wide-last, wide-other, row-room}
+use Rattle.rows.proofs.table.Sizes.{base-step, wide-last, wide-other}
 use Rattle.rules.specs.Fact.{edge, type}
-use Rattle.rules.specs.Rule.{Set, any}
-use Rattle.rules.proofs.Tests.{and-both, and-intro, or-cases, or-left, or-right, any-some, some-any}
+use Rattle.rules.specs.Rule.{any}
+use Rattle.rules.proofs.Tests.{both-ways, and-both, and-intro, or-cases, or-left, or-right, any-some, some-any}
 use Rattle.rules.proofs.Facts.{edge-flipped, flipped-id}
 use Rattle.tables.specs.Open.{sizeOf}
 use Rattle.tables.proofs.Fields.{field-below, field-flipped}
 use Rattle.rounds.specs.View.{facts}
-use Rattle.rounds.proofs.View.{fact-last, facts-at}
-use Rattle.verdict.proofs.pair.Passing.{both-ways}
-use Rattle.verdict.proofs.pair.Views.{edge-leads}
+use Rattle.rounds.proofs.View.{fact-role, fact-last, facts-at}
 use Rattle.judging.specs.Row.{Holds, Met, Filled}
-use Rattle.judging.specs.Way.{mix, startOf, given}
-use Rattle.judging.specs.Memo.{Laid, factsIn, classIn, Started, Gave, Empty, SelfPut, Selves, RowPut, Fellows}
+use Rattle.judging.specs.Way.{startOf}
+use Rattle.judging.specs.Memo.{factsIn, classIn, Started, Gave, Empty, SelfPut, Selves, RowPut, Fellows}
 use Rattle.judging.specs.declared.way.Way.{Way}
 use Rattle.judging.specs.declared.way.Way.the-variants.{Leaf, Inner, Every, Any}
 
@@ -128,7 +127,12 @@ module _ (h : Counts) {t : List ℕ} (k : Table (sizeOf h) t) where
 
   -- they have the facts
   edge-row : (ρ : Role) (a : ℕ) → RoleWithin h ρ → a < h .individuals → Holds t (base z (fieldOf ρ) + a) (h .individuals) (λ b. facts z t (edge ρ a b))
-  edge-row ρ a w l b m = sym (edge-leads k ρ a b (omega arith) l m)
+  edge-row ρ a w l b m =
+      let f = fieldOf ρ in
+      let u = wide-other z f (λ q. omega (arith, field-lt ρ w)) in
+      let v = wide-other z (table.flipped f) (λ q. omega (arith, flip-lt ρ w)) in
+      let can : Can z f a b = record { field = omega (arith, field-lt ρ w); from = rw u l; to = rw v m } in
+      sym (facts-at k f a b can) ∙ ap (facts z t) (fact-role z f a b (omega (arith, field-lt ρ w)) ∙ ap (λ (r : Role). edge r a b) (role-of-field ρ))
 
   class-row : (c : ℕ) → c < h .classes → Holds t (base z (z .fields - 1) + c) (h .individuals) (λ i. facts z t (type i c))
   class-row c l i m =

@@ -26,8 +26,8 @@ use Rattle.rules.proofs.Tests.{false-true, and-intro, or-left}
 use Rattle.tables.specs.Open.{bookOf, sizeOf, Open}
 use Rattle.tables.proofs.Open.{open-limits, open-within}
 use Rattle.saturation.proofs.Sides.{PairLow, disjoint-low}
-use Rattle.rounds.specs.View.{fact as factOf, facts}
-use Rattle.rounds.proofs.View.{fact-types, facts-at}
+use Rattle.rounds.specs.View.{fact as factOf}
+use Rattle.rounds.proofs.View.{fact-types}
 use Rattle.derivation.specs.declared.row.Row.{Row}
 use Rattle.derivation.specs.Rows.{none, rowAt, Claim, fact, clash, claim, says, saysRow, before, named, earlier}
 use Rattle.derivation.specs.Accept.{statements, byClash, follows, claimAt, accepts}
@@ -36,7 +36,8 @@ use Rattle.derivation.specs.Tables.{PairsOf}
 use Rattle.derivation.proofs.Clashing.{types-clash, clashing, Clashing as TwoTypes}
 use Rattle.derivation.proofs.Checking.{marks-low}
 use Rattle.steps.specs.Links.{Place, RowPut}
-use Rattle.steps.specs.Written.{Listed}
+use Rattle.steps.specs.Written.{knownIn, Listed}
+use Rattle.steps.proofs.Known.{known-at}
 use Rattle.steps.proofs.Giving.{place-says, said, named-first, named-second, earlier-all, before-none}
 use Rattle.steps.proofs.Putting.{listed-sized, listed-low, listed-place}
 use Rattle.steps.proofs.Rows.{before-row, named-same}
@@ -129,10 +130,10 @@ module _ {s O : List ℕ} {h : Counts} {t : List ℕ} {n : ℕ} {l : List ℕ} (
   marks-below = subst (λ (g : Counts). Every (λ (m : Mark). m .left < g .classes) (marks (bookOf s))) (sym (o .counts)) (marks-low o)
 
   table : Table (sizeOf h) t
-  table = w .kept .table
+  table = w .table
 
-  type-at : (x a : ℕ) → x < h .individuals → a < h .classes → facts (sizeOf h) t (type x a) ≡ leads (sizeOf h) t (sizeOf h .fields - 2) x a
-  type-at x a i j = ap (facts (sizeOf h) t) (sym (fact-types (sizeOf h) (table .sized) x a)) ∙ facts-at table (sizeOf h .fields - 2) x a (type-can table x a i j)
+  type-at : (x a : ℕ) → x < h .individuals → a < h .classes → knownIn h t (type x a) ≡ leads (sizeOf h) t (sizeOf h .fields - 2) x a
+  type-at x a i j = ap (knownIn h t) (sym (fact-types (sizeOf h) (table .sized) x a)) ∙ known-at h table (sizeOf h .fields - 2) x a (type-can table x a i j)
 
   same-individuals : bookOf s .counts .individuals ≡ h .individuals
   same-individuals = ap (λ (g : Counts). g .individuals) (o .counts)
@@ -141,11 +142,11 @@ module _ {s O : List ℕ} {h : Counts} {t : List ℕ} {n : ℕ} {l : List ℕ} (
   same-classes = ap (λ (g : Counts). g .classes) (o .counts)
 
   -- a clash is found
-  pub clash-there : {P : List ℕ} {r : Found} → PairsOf (bookOf s) h P → clashes (bookOf s) (facts (sizeOf h) t) ≡ true → Clashing (sizeOf h) t P r → Two (sizeOf h) t P r × (r .other < h .classes)
+  pub clash-there : {P : List ℕ} {r : Found} → PairsOf (bookOf s) h P → clashes (bookOf s) (knownIn h t) ≡ true → Clashing (sizeOf h) t P r → Two (sizeOf h) t P r × (r .other < h .classes)
   clash-there {P} {r} pairs c f = go (decLt (r .other) (h .classes))
     where
-      it : TwoTypes (bookOf s) top pairs-low marks-below (facts (sizeOf h) t)
-      it = clashing (bookOf s) top pairs-low marks-below (facts (sizeOf h) t) c
+      it : TwoTypes (bookOf s) top pairs-low marks-below (knownIn h t)
+      it = clashing (bookOf s) top pairs-low marks-below (knownIn h t) c
 
       go : Dec (r .other < h .classes) → Two (sizeOf h) t P r × (r .other < h .classes)
       go (yes l) = (f .two l, l)

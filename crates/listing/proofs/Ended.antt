@@ -15,6 +15,7 @@ use Rattle.rules.specs.Clash.{clashes}
 use Rattle.rules.specs.Lists.{types, edges, pairs, used, entries2, entries3, filled}
 use Rattle.rules.specs.Ends.{End, Refused, Spent, Clash, Finished, onDecoded}
 use Rattle.derivation.specs.Accept.{stands}
+use Rattle.steps.specs.Joinings.{joinings, dueCount}
 use Rattle.listing.specs.Listing.{rowCount, Ended, as-it-was, zeros, done, endedFrom, ended, Left, RowsRun}
 use Rattle.listing.proofs.Stand.{listing-stands}
 
@@ -54,21 +55,21 @@ module _ (ts es : List ℕ) (room : ℕ) where
     From a b c = pick a (zeros ts es Spent) (pick b (zeros ts es (Refused 13)) (pick c (zeros ts es (Clash (length (types B S)) (length (edges B S)))) (done ts es B S)))
 
     -- the number of rows is what the end says
-    finished-rows : (t e p : ℕ) → endedFrom B S budget ts es room .end ≡ Finished t e p → rowCount B S ≡ t + e
-    unfolding endedFrom rowCount used
+    finished-rows : (t e p : ℕ) → endedFrom B S budget ts es room .end ≡ Finished t e p → rowCount B S ≡ t + e + length (joinings B S)
+    unfolding endedFrom rowCount dueCount used
     finished-rows t e p = go (ltb budget (used B S)) (ltb room (9 * rowCount B S)) (clashes B S)
       where
-        go : (a b c : Bool) → From a b c .end ≡ Finished t e p → length (types B S) + length (edges B S) + pick c 1 0 ≡ t + e
+        go : (a b c : Bool) → From a b c .end ≡ Finished t e p → length (types B S) + length (edges B S) + length (joinings B S) + pick c 1 0 ≡ t + e + length (joinings B S)
         go true b c q = absurd (let o : _≡_ {A = ℕ} 0 1 = cc in omega arith)
         go false true c q = absurd (let o : _≡_ {A = ℕ} 0 1 = cc in omega arith)
         go false false true q = absurd (let o : _≡_ {A = ℕ} 0 1 = cc in omega arith)
         go false false false q = let i : length (types B S) ≡ t = ap first q in let j : length (edges B S) ≡ e = ap second q in omega arith
 
-    clash-rows : (t e : ℕ) → endedFrom B S budget ts es room .end ≡ Clash t e → rowCount B S ≡ t + e + 1
-    unfolding endedFrom rowCount used
+    clash-rows : (t e : ℕ) → endedFrom B S budget ts es room .end ≡ Clash t e → rowCount B S ≡ t + e + length (joinings B S) + 1
+    unfolding endedFrom rowCount dueCount used
     clash-rows t e = go (ltb budget (used B S)) (ltb room (9 * rowCount B S)) (clashes B S)
       where
-        go : (a b c : Bool) → From a b c .end ≡ Clash t e → length (types B S) + length (edges B S) + pick c 1 0 ≡ t + e + 1
+        go : (a b c : Bool) → From a b c .end ≡ Clash t e → length (types B S) + length (edges B S) + length (joinings B S) + pick c 1 0 ≡ t + e + length (joinings B S) + 1
         go true b c q = absurd (let o : _≡_ {A = ℕ} 0 1 = cc in omega arith)
         go false true c q = absurd (let o : _≡_ {A = ℕ} 0 1 = cc in omega arith)
         go false false true q = let i : length (types B S) ≡ t = ap first q in let j : length (edges B S) ≡ e = ap second q in omega arith
@@ -107,25 +108,25 @@ module _ (ts es : List ℕ) (room : ℕ) where
       unfolding ended
       run-book = ap (Run (ltb 1000000 budget) (ltb (length es) (3 * budget)) (ltb (length ts) (2 * budget))) book
 
-      pub ends-finished : (t e p : ℕ) → ended s budget ts es room .end ≡ Finished t e p → rowCount B (conclusions B) ≡ t + e
+      pub ends-finished : (t e p : ℕ) → ended s budget ts es room .end ≡ Finished t e p → rowCount B (conclusions B) ≡ t + e + length (joinings B (conclusions B))
       ends-finished t e p q = go (ltb 1000000 budget) (ltb (length es) (3 * budget)) (ltb (length ts) (2 * budget)) (ap (λ (o : Ended). o .end) (sym run-book) ∙ q)
         where
-          go : (a b c : Bool) → Run a b c (accepted B) .end ≡ Finished t e p → rowCount B (conclusions B) ≡ t + e
+          go : (a b c : Bool) → Run a b c (accepted B) .end ≡ Finished t e p → rowCount B (conclusions B) ≡ t + e + length (joinings B (conclusions B))
           go true b c i = absurd (let o : _≡_ {A = ℕ} 0 1 = cc in omega arith)
           go false true c i = absurd (let o : _≡_ {A = ℕ} 0 1 = cc in omega arith)
           go false false true i = absurd (let o : _≡_ {A = ℕ} 0 1 = cc in omega arith)
           go false false false i = finished-rows B (conclusions B) budget t e p i
 
-      pub ends-clash : (t e : ℕ) → ended s budget ts es room .end ≡ Clash t e → rowCount B (conclusions B) ≡ t + e + 1
+      pub ends-clash : (t e : ℕ) → ended s budget ts es room .end ≡ Clash t e → rowCount B (conclusions B) ≡ t + e + length (joinings B (conclusions B)) + 1
       ends-clash t e q = go (ltb 1000000 budget) (ltb (length es) (3 * budget)) (ltb (length ts) (2 * budget)) (ap (λ (o : Ended). o .end) (sym run-book) ∙ q)
         where
-          go : (a b c : Bool) → Run a b c (accepted B) .end ≡ Clash t e → rowCount B (conclusions B) ≡ t + e + 1
+          go : (a b c : Bool) → Run a b c (accepted B) .end ≡ Clash t e → rowCount B (conclusions B) ≡ t + e + length (joinings B (conclusions B)) + 1
           go true b c i = absurd (let o : _≡_ {A = ℕ} 0 1 = cc in omega arith)
           go false true c i = absurd (let o : _≡_ {A = ℕ} 0 1 = cc in omega arith)
           go false false true i = absurd (let o : _≡_ {A = ℕ} 0 1 = cc in omega arith)
           go false false false i = clash-rows B (conclusions B) budget t e i
 
--- Every listing is accepted: of the row list that a run leaves, as many rows stand as it has facts, and one more after a clash.
+-- Every listing is accepted: of the row list that a run leaves, as many rows stand as it has facts and joinings, and one more after a clash.
 module _ (s : List ℕ) (budget : ℕ) (ts es rs : List ℕ) (o : Ended) (l : List ℕ) (run : RowsRun s budget ts es rs o l) (B : Book) (book : decode s ≡ accepted B) where
   listed : (x : End) → o .end ≡ x → Left s x rs l
   listed x q = subst (λ (y : End). Left s y rs l) q (run .rows)
@@ -133,8 +134,8 @@ module _ (s : List ℕ) (budget : ℕ) (ts es rs : List ℕ) (o : Ended) (l : Li
   ends : (x : End) → o .end ≡ x → ended s budget ts es (length rs) .end ≡ x
   ends x q = ap (λ (y : Ended). y .end) (sym (run .outcome)) ∙ q
 
-  pub finished-stands : (t e p : ℕ) → o .end ≡ Finished t e p → stands B l ≡ t + e
+  pub finished-stands : (t e p : ℕ) → o .end ≡ Finished t e p → stands B l ≡ t + e + length (joinings B (conclusions B))
   finished-stands t e p q = listing-stands B l (conclusions B) (length rs) (listed (Finished t e p) q B book) ∙ ends-finished ts es (length rs) s budget B book t e p (ends (Finished t e p) q)
 
-  pub clash-stands : (t e : ℕ) → o .end ≡ Clash t e → stands B l ≡ t + e + 1
+  pub clash-stands : (t e : ℕ) → o .end ≡ Clash t e → stands B l ≡ t + e + length (joinings B (conclusions B)) + 1
   clash-stands t e q = listing-stands B l (conclusions B) (length rs) (listed (Clash t e) q B book) ∙ ends-clash ts es (length rs) s budget B book t e (ends (Clash t e) q)

@@ -1,41 +1,36 @@
 -- The rows of a book, from nothing; and how the run ends.
 use Prim.Native.Nat.{ℕ, zero, suc, _+_, _-_, _*_, _<_, _≤_}
-use native.Mathlib.Nat.{mul-le-mul-right}
 use native.Mathlib.Omega.{arith}
 use mathlib.Core.Path.{_≡_, refl, ap, sym, _∙_, subst}
 use mathlib.Core.Bool.{Bool, true, false}
 use mathlib.Core.List.{List, [], _∷_, _++_}
 use lib.ListN.{length, getD, take, replicate, length-replicate}
 use Rattle.book.specs.Read.{pick}
-use Rattle.book.specs.Book.{Book, accepted, decode}
+use Rattle.book.specs.Book.{Book}
 use Rattle.book.specs.Header.{Limits}
 use Rattle.book.specs.declared.header.Counts.{Counts}
-use Rattle.rows.specs.Table.{base, Table}
 use Rattle.rules.specs.Rule.{Set}
 use Rattle.rules.specs.Meaning.{conclusions}
 use Rattle.rules.specs.Clash.{clashes}
-use Rattle.rules.specs.Lists.{types, edges, used, entries2, filled}
-use Rattle.tables.specs.Open.{bookOf, sizeOf, Open}
-use Rattle.tables.specs.Tables.{Blank}
-use Rattle.tables.proofs.Open.{open-limits, open-statements}
-use Rattle.rounds.specs.View.{facts, Kept}
-use Rattle.rounds.proofs.Facts.{open-sized}
-use Rattle.rounds.proofs.Start.{no-facts, blank-kept}
-use Rattle.tables.proofs.Blank.{blank}
-use Rattle.verdict.specs.Listing.{typesOf, allEdges}
-use Rattle.verdict.proofs.list.Views.{types-view, edges-view}
+use Rattle.rules.specs.Lists.{types, entries2, filled}
+use Rattle.tables.specs.Open.{bookOf, sizeOf}
+use Rattle.tables.proofs.Open.{open-statements}
+use Rattle.verdict.specs.Listing.{typesOf}
+use Rattle.verdict.proofs.list.Views.{types-view}
 use Rattle.derivation.specs.Rows.{rowAt, Claim, fact, clash}
 use Rattle.derivation.specs.Accept.{claimAt, accepts, statements}
 use Rattle.derivation.specs.Judging.{Stated}
-use Rattle.steps.specs.Written.{Written, Listed}
-use Rattle.steps.proofs.Rows.{Old, same-claim, same-accepts, written-none}
+use Rattle.steps.specs.Joinings.{dueCount, dueOf}
+use Rattle.steps.specs.Written.{knownIn, Written, Listed}
+use Rattle.steps.proofs.Known.{known-low}
+use Rattle.steps.proofs.Rows.{Old, same-claim, same-accepts}
 use Rattle.turns.specs.Turns.{Located}
 use Rattle.listing.specs.Clashes.{ClashPut}
 use Rattle.listing.specs.Filled.{Filled}
 use Rattle.listing.specs.Listing.{rowCount, Listing}
 use Rattle.listing.specs.declared.run.Numbers.{Numbers}
 use Rattle.listing.specs.Running.{rowsFor, Ran, RowsLeft}
-use Rattle.listing.proofs.Running.{ran-used}
+use Rattle.listing.proofs.Running.{ran-due}
 
 -- where the statements start
 pub located : {s O L T K P : List ℕ} {h : Counts} → Stated s h O L T K P → Located s h T
@@ -50,33 +45,15 @@ written-same B P n l m old w = record {
   once = λ j k a b e. w .once j k a b (sym (same-claim n l m old B j a) ∙ (e ∙ same-claim n l m old B k b));
 }
 
-module _ {s : List ℕ} {h : Counts} {t l : List ℕ} {n : ℕ} (w : Listed s h t n l) (is : facts (sizeOf h) t ≡ conclusions (bookOf s)) where
-  all-written : Written (bookOf s) (conclusions (bookOf s)) n l
-  all-written = subst (λ (P : Set). Written (bookOf s) P n l) is (w .written)
+module _ {s : List ℕ} {h : Counts} {t l : List ℕ} {n : ℕ} (w : Listed s h t n l) (is : knownIn h t ≡ conclusions (bookOf s)) where
+  all-written : Written (bookOf s) (dueOf (bookOf s) (conclusions (bookOf s))) n l
+  all-written = subst (λ (P : Set). Written (bookOf s) (dueOf (bookOf s) P) n l) is (w .written)
 
   pub filled-plain : {c : Bool} → c ≡ false → Filled s h c n t l
-  filled-plain e = record { kept = w .kept; is = is; written = all-written; ends-clash = λ i. absurd (let z : _≡_ {A = ℕ} 0 1 = cc in omega arith) }
+  filled-plain e = record { table = w .table; is = is; written = all-written; ends-clash = λ i. absurd (let z : _≡_ {A = ℕ} 0 1 = cc in omega arith) }
 
   pub filled-clash : (c : Bool) {m : List ℕ} → ClashPut (bookOf s) l n m → Filled s h c n t m
-  filled-clash c {m} p = record { kept = w .kept; is = is; written = written-same (bookOf s) (conclusions (bookOf s)) n l m (p .old) all-written; ends-clash = λ i. (p .accepted, p .claims) }
-
--- no row yet
-pub listed-none : {s O : List ℕ} {h : Counts} {l : List ℕ} (n : ℕ) → Open s h O → (base (sizeOf h) (sizeOf h .fields - 1) + h .classes + sizeOf h .fields) * 8 ≤ n → 9 * used (bookOf s) (conclusions (bookOf s)) ≤ length l → Listed s h (replicate n 0) 0 l
-listed-none {s} {O} {h} {l} n o wide room = record {
-  whole = o .whole;
-  counts = o .counts;
-  kept = blank-kept (open-sized o) (subst (λ (m : ℕ). (base (sizeOf h) (sizeOf h .fields - 1) + h .classes) * 8 ≤ m) (sym (length-replicate {0} {A = ℕ} n 0)) (omega arith)) (blank n);
-  written = written-none (bookOf s) (facts (sizeOf h) (replicate n 0)) l (no-facts (sizeOf h) (replicate n 0) (blank n));
-  room = room;
-  marks = subst (λ (m : ℕ). (base (sizeOf h) (sizeOf h .fields - 1) + h .classes + sizeOf h .fields) * 8 ≤ m) (sym (length-replicate {0} {A = ℕ} n 0)) wide;
-}
-
--- the most rows that a book asks for
-pub most-words : (h : Counts) → Limits h → (base (sizeOf h) (sizeOf h .fields - 1) + h .classes + sizeOf h .fields) * 8 ≤ 532520
-unfolding base
-most-words h t =
-    let m = mul-le-mul-right {m = 2 * h .roles + 2 - 1} {n = 129} (h .individuals) (omega (arith, t .roles-top)) in
-    omega (arith, t .roles-top, t .individuals-top, t .classes-top)
+  filled-clash c {m} p = record { table = w .table; is = is; written = written-same (bookOf s) (dueOf (bookOf s) (conclusions (bookOf s))) n l m (p .old) all-written; ends-clash = λ i. (p .accepted, p .claims) }
 
 -- ---- the end
 
@@ -124,7 +101,7 @@ module _ (l m : List ℕ) (k : ℕ) (fits : 9 * k ≤ length l) (e : m ≡ take 
   cleared-rows j b = rw (entry (9 * j) (omega arith), entry (9 * j + 1) (omega arith), entry (9 * j + 2) (omega arith), entry (9 * j + 3) (omega arith), entry (9 * j + 4) (omega arith), entry (9 * j + 5) (omega arith), entry (9 * j + 6) (omega arith), entry (9 * j + 7) (omega arith), entry (9 * j + 8) (omega arith)) refl
 
 -- so it is a listing
-module _ {s : List ℕ} {h : Counts} {c : Bool} {n : ℕ} {t l m : List ℕ} (f : Filled s h c n t l) (all : n ≡ used (bookOf s) (conclusions (bookOf s))) (is : c ≡ clashes (bookOf s) (conclusions (bookOf s))) (fits : 9 * (n + pick c 1 0) ≤ length l)
+module _ {s : List ℕ} {h : Counts} {c : Bool} {n : ℕ} {t l m : List ℕ} (f : Filled s h c n t l) (all : n ≡ dueCount (bookOf s) (conclusions (bookOf s))) (is : c ≡ clashes (bookOf s) (conclusions (bookOf s))) (fits : 9 * (n + pick c 1 0) ≤ length l)
     (e : m ≡ take (9 * (n + pick c 1 0)) l ++ replicate (length l - 9 * (n + pick c 1 0)) 0) where
   due : rowCount (bookOf s) (conclusions (bookOf s)) ≡ n + pick c 1 0
   unfolding rowCount
@@ -144,7 +121,7 @@ module _ {s : List ℕ} {h : Counts} {c : Bool} {n : ℕ} {t l m : List ℕ} (f 
   listing-of = record {
     room = cleared-long l m (n + pick c 1 0) fits e;
     fits = rw due fits;
-    facts = subst (λ (k : ℕ). Written (bookOf s) (conclusions (bookOf s)) k m) all (written-same (bookOf s) (conclusions (bookOf s)) n l m first-rows (f .written));
+    facts = subst (λ (k : ℕ). Written (bookOf s) (dueOf (bookOf s) (conclusions (bookOf s))) k m) all (written-same (bookOf s) (dueOf (bookOf s) (conclusions (bookOf s))) n l m first-rows (f .written));
     ends-clash = λ q. subst (λ (k : ℕ). (accepts (bookOf s) m k ≡ true) × (claimAt (bookOf s) m k ≡ clash)) all (last (is ∙ q));
     behind = λ i a b. cleared-zero l m (n + pick c 1 0) fits e i (rw due at a);
   }
@@ -155,27 +132,19 @@ module _ {s : List ℕ} {h : Counts} {c : Bool} {n : ℕ} {t l m : List ℕ} (f 
           let p = f .ends-clash q in
           (same-accepts (n + pick c 1 0) l m old (bookOf s) n more ∙ p .0, same-claim (n + pick c 1 0) l m old (bookOf s) n more ∙ p .1)
 
--- ---- types and edges off the table
+-- ---- types off the table
 
 module _ {s : List ℕ} {h : Counts} {c : Bool} {n : ℕ} {t l : List ℕ} (counts : bookOf s .counts ≡ h) (limits : Limits h) (f : Filled s h c n t l) where
-  abbrev S : Set
-  S = conclusions (bookOf s)
-
   pub types-read : typesOf (sizeOf h) t ≡ types (bookOf s) (conclusions (bookOf s))
-  types-read = sym (types-view h (bookOf s) counts t (limits .roles-top) (limits .individuals-top) (limits .classes-top)) ∙ ap (types (bookOf s)) (f .is)
-
-  pub edges-read : allEdges (sizeOf h) t ≡ edges (bookOf s) (conclusions (bookOf s))
-  edges-read = sym (edges-view h (bookOf s) counts t (limits .roles-top) (limits .individuals-top) (limits .classes-top)) ∙ ap (edges (bookOf s)) (f .is)
-
-  pub used-read : n ≡ used (bookOf s) (conclusions (bookOf s)) → n ≡ length (typesOf (sizeOf h) t) + length (allEdges (sizeOf h) t)
-  unfolding used
-  used-read e = e ∙ rw (types-read, edges-read) refl
+  types-read =
+      sym (types-view h (bookOf s) counts (limits .roles-top) (limits .individuals-top) (limits .classes-top) t (knownIn h t) (known-low h t))
+      ∙ ap (types (bookOf s)) (f .is)
 
 -- ---- what is left
 
-pub rows-left : {s : List ℕ} {h : Counts} {r : Numbers} {ts rs us l m : List ℕ} {t : List ℕ} → bookOf s .counts ≡ h → Limits h → Ran s r ts → Filled s h (r .clashes) (r .types + r .edges) t l → length l ≡ length rs
+pub rows-left : {s : List ℕ} {h : Counts} {r : Numbers} {ts rs us l m : List ℕ} {t : List ℕ} → bookOf s .counts ≡ h → Limits h → Ran s r ts → Filled s h (r .clashes) (r .types + r .edges + r .joinings) t l → length l ≡ length rs
     → us ≡ pick (r .clashes) (replicate (length ts) 0) (filled (entries2 (typesOf (sizeOf h) t)) (length ts)) → 9 * rowsFor r ≤ length rs → m ≡ take (9 * rowsFor r) l ++ replicate (length l - 9 * rowsFor r) 0 → RowsLeft s r ts rs us m
 rows-left {s} {h} {r} {ts} {rs} {us} {l} {m} {t} counts limits w f long e fits cut = record {
   types = e ∙ rw (types-read counts limits f) refl;
-  listing = subst (λ (n : ℕ). Listing (bookOf s) (conclusions (bookOf s)) n m) long (listing-of f (ran-used w) (w .clash) (omega (arith, long, fits)) cut);
+  listing = subst (λ (n : ℕ). Listing (bookOf s) (conclusions (bookOf s)) n m) long (listing-of f (ran-due w) (w .clash) (omega (arith, long, fits)) cut);
 }

@@ -1,19 +1,22 @@
 -- Each way a run ends is the defined one.
-use Prim.Native.Nat.{ℕ, _+_, _*_, _<_, _≤_}
+use Prim.Native.Nat.{ℕ, zero, suc, _+_, _*_, _<_, _≤_}
 use native.Mathlib.Decide.{decLt}
 use native.Mathlib.Omega.{arith}
 use mathlib.Core.Path.{_≡_, refl, ap, sym, _∙_, subst}
-use mathlib.Core.Bool.{Bool, true, false}
+use mathlib.Core.Bool.{Bool, true, false, not, _&&_}
 use mathlib.Core.List.{List}
-use lib.ListN.{length, replicate, length-replicate}
+use lib.ListN.{length, replicate, length-replicate, length-append}
 use Rattle.book.specs.Read.{pick}
 use Rattle.book.specs.Book.{Book, Decoded, accepted, refused, decode}
-use Rattle.rules.specs.Fact.{cap, two}
+use Rattle.rules.specs.Fact.{cap, Two, two}
+use Rattle.rules.specs.Rule.{Set}
+use Rattle.rules.specs.ToldSame.{same}
 use Rattle.rules.specs.Meaning.{conclusions}
 use Rattle.rules.specs.Clash.{clashes}
 use Rattle.rules.specs.Same.{samePair}
 use Rattle.rules.specs.Lists.{gather, only, types, edges, pairs, used, entries2, filled}
 use Rattle.rules.specs.Ends.{End, Refused, Spent, Clash, Finished, Outcome, untouched, cleared, listing, onDecoded, outcomeFrom, outcome}
+use Rattle.rules.proofs.Tests.{false-true}
 use Rattle.rules.proofs.Least.{count-le}
 use Rattle.rules.proofs.Sums.{length-gather, sum-le}
 use Rattle.rules.proofs.Inside.{Inside, accepted-inside}
@@ -22,8 +25,10 @@ use Rattle.rules.proofs.Tally.{used-counted}
 use Rattle.rules.proofs.Ended as plain
 use Rattle.tables.specs.Open.{noBook, bookOf}
 use Rattle.verdict.proofs.list.Gathers.{gather-few}
+use Rattle.steps.specs.Joinings.{joinings, dueCount, dueOf}
+use Rattle.steps.proofs.Joinings.{due-counted}
 use Rattle.listing.specs.declared.run.Numbers.{Numbers}
-use Rattle.listing.specs.Running.{rowsFor, Ran, RunListed, ended-as}
+use Rattle.listing.specs.Running.{numbersOf, rowsFor, Ran, RunListed, ended-as}
 use Rattle.listing.specs.Listing.{rowCount, Ended, zeros, endedFrom, ended, Listing, Lists, Left, RowsRun}
 use Rattle.listing.proofs.Ended as own
 
@@ -37,18 +42,34 @@ module _ {s : List ℕ} {r : Numbers} {ts : List ℕ} (w : Ran s r ts) where
   unfolding used
   ran-used = omega (arith, w .types, w .edges)
 
-  pub ran-few : r .types + r .edges ≤ 16908288
-  ran-few = omega (arith, ran-used, used-counted (bookOf s) (inside .limits) (conclusions (bookOf s)) (conclusions-own (bookOf s) inside), count-le (conclusions (bookOf s)) cap)
+  pub ran-due : r .types + r .edges + r .joinings ≡ dueCount (bookOf s) (conclusions (bookOf s))
+  unfolding dueCount
+  ran-due = omega (arith, ran-used, w .joinings)
+
+  pub ran-few : r .types + r .edges + r .joinings ≤ 17170432
+  ran-few =
+      omega (
+        arith,
+        ran-due,
+        due-counted (bookOf s) (inside .limits) (conclusions (bookOf s)) (conclusions-own (bookOf s) inside),
+        count-le (dueOf (bookOf s) (conclusions (bookOf s))) 17170432,
+      )
 
   more : (b : Bool) (n m : ℕ) → 9 * (n + pick b 1 0) ≤ m → 9 * n ≤ m
   more true n m l = omega arith
   more false n m l = omega arith
 
-  pub ran-room : {m : ℕ} → 9 * rowsFor r ≤ m → 9 * used (bookOf s) (conclusions (bookOf s)) ≤ m
-  ran-room {m} l = subst (λ (n : ℕ). 9 * n ≤ m) ran-used (more (r .clashes) (r .types + r .edges) m l)
+  pub ran-room : {m : ℕ} → 9 * rowsFor r ≤ m → 9 * (r .types + r .edges + r .joinings) ≤ m
+  ran-room {m} l = more (r .clashes) (r .types + r .edges + r .joinings) m l
 
-  pub ran-clash : {m : ℕ} → 9 * rowsFor r ≤ m → r .clashes ≡ true → 9 * (r .types + r .edges) + 9 ≤ m
-  ran-clash {m} l e = let k : 9 * (r .types + r .edges + 1) ≤ m = rw e at l in omega arith
+  pub ran-clash : {m : ℕ} → 9 * rowsFor r ≤ m → r .clashes ≡ true → 9 * (r .types + r .edges + r .joinings) + 9 ≤ m
+  ran-clash {m} l e = let k : 9 * (r .types + r .edges + r .joinings + 1) ≤ m = rw e at l in omega arith
+
+-- there are no more types and edges than facts below the pairs
+pub used-few : (s : List ℕ) → decode s ≡ accepted (bookOf s) → used (bookOf s) (conclusions (bookOf s)) ≤ 16908288
+used-few s e =
+    let i = accepted-inside s (bookOf s) e in
+    omega (arith, used-counted (bookOf s) (i .limits) (conclusions (bookOf s)) (conclusions-own (bookOf s) i), count-le (conclusions (bookOf s)) cap)
 
 -- there are no more same pairs than pairs
 pairs-few : (B : Book) → B .counts .individuals ≤ 512 → length (pairs B (conclusions B)) ≤ 262144
@@ -56,9 +77,26 @@ unfolding pairs
 pairs-few B l =
     omega (
       arith,
-      length-gather (B .counts .individuals) (λ i. gather (B .counts .individuals) λ j. only (samePair B (conclusions B) i j) (two i j)),
-      sum-le (B .counts .individuals) 512 (λ i. length (gather (B .counts .individuals) λ j. only (samePair B (conclusions B) i j) (two i j))) (λ i m. omega (arith, gather-few (B .counts .individuals) (samePair B (conclusions B) i) (two i))),
+      length-gather (B .counts .individuals) (λ i. gather (B .counts .individuals) λ j. only (samePair (conclusions B) i j) (two i j)),
+      sum-le (B .counts .individuals) 512 (λ i. length (gather (B .counts .individuals) λ j. only (samePair (conclusions B) i j) (two i j))) (λ i m. omega (arith, gather-few (B .counts .individuals) (samePair (conclusions B) i) (two i))),
     )
+
+-- and no more joinings than same pairs
+gather-fewer : (n : ℕ) (f g : ℕ → List Two) → ((k : ℕ) → length (f k) ≤ length (g k)) → length (gather n f) ≤ length (gather n g)
+gather-fewer zero f g h = omega arith
+gather-fewer (suc n) f g h = omega (arith, length-append (gather n f) (f n), length-append (gather n g) (g n), h n, gather-fewer n f g h)
+
+only-fewer : (a b : Bool) (x : Two) → length (only (a && b) x) ≤ length (only a x)
+only-fewer true true x = omega arith
+only-fewer true false x = omega arith
+only-fewer false b x = omega arith
+
+joinings-few : (B : Book) (S : Set) → length (joinings B S) ≤ length (pairs B S)
+unfolding joinings pairs
+joinings-few B S = gather-fewer (B .counts .individuals) _ _ (λ i. gather-fewer (B .counts .individuals) _ _ (λ j. only-fewer (samePair S i j) (not (same B i j)) (two i j)))
+
+pub no-joinings : (B : Book) (S : Set) {p : ℕ} → p ≡ length (pairs B S) → p ≡ 0 → 0 ≡ length (joinings B S)
+no-joinings B S e q = omega (arith, joinings-few B S)
 
 book-is : (s : List ℕ) (B : Book) → decode s ≡ accepted B → bookOf s ≡ B
 unfolding bookOf
@@ -71,15 +109,16 @@ module _ (s : List ℕ) (budget : ℕ) (ts es rs : List ℕ) where
     pub ran : Ran s r ts
     pub types-long : length (o .types) ≡ length ts
     pub edges-long : length (o .edges) ≡ length es
+    pub pairs : r .clashes ≡ false → r .pairs ≡ length (pairs (bookOf s) (conclusions (bookOf s)))
     pub thirteen : length rs < 9 * rowsFor r → ended s budget ts es (length rs) ≡ zeros ts es (Refused 13)
     pub fine : 9 * rowsFor r ≤ length rs
         → ended s budget ts es (length rs) ≡ record { end = ended-as r; types = pick (r .clashes) (replicate (length ts) 0) (filled (entries2 (types (bookOf s) (conclusions (bookOf s)))) (length ts)); edges = o .edges }
 
-  abbrev pub clashed : ℕ → ℕ → Numbers
-  clashed t e = record { types = t; edges = e; pairs = 0; clashes = true }
+  abbrev clashed : ℕ → ℕ → Numbers
+  clashed t e = numbersOf s t e 0 true
 
-  abbrev pub finished : ℕ → ℕ → ℕ → Numbers
-  finished t e p = record { types = t; edges = e; pairs = p; clashes = false }
+  abbrev finished : ℕ → ℕ → ℕ → Numbers
+  finished t e p = numbersOf s t e p false
 
   abbrev pub Plainly : Outcome → End → Type 0
   Plainly o (Refused n) = ended s budget ts es (length rs) ≡ record { end = Refused n; types = o .types; edges = o .edges }
@@ -114,8 +153,11 @@ module _ (s : List ℕ) (budget : ℕ) (ts es rs : List ℕ) where
       unfolding used
       all = refl
 
-      due : (z : Bool) → clashes (bookOf s) (conclusions (bookOf s)) ≡ z → rowCount (bookOf s) (conclusions (bookOf s)) ≡ T + E + pick z 1 0
-      unfolding rowCount used
+      abbrev J : ℕ
+      J = length (joinings (bookOf s) (conclusions (bookOf s)))
+
+      due : (z : Bool) → clashes (bookOf s) (conclusions (bookOf s)) ≡ z → rowCount (bookOf s) (conclusions (bookOf s)) ≡ T + E + J + pick z 1 0
+      unfolding rowCount dueCount used
       due z e = rw e refl
 
       few-pairs : 2 * Q ≤ length ps
@@ -124,9 +166,10 @@ module _ (s : List ℕ) (budget : ℕ) (ts es rs : List ℕ) where
       module _ (spare : used (bookOf s) (conclusions (bookOf s)) ≤ budget) where
         stood-clash : clashes (bookOf s) (conclusions (bookOf s)) ≡ true → Stood (cleared ts es ps (Clash T E)) (clashed T E)
         stood-clash z = record {
-          ran = record { whole = whole; types = refl; edges = refl; clash = sym z; room = omega (arith, all) };
+          ran = record { whole = whole; types = refl; edges = refl; joinings = refl; clash = sym z; room = omega (arith, all) };
           types-long = length-replicate {0} {A = ℕ} (length ts) 0;
           edges-long = length-replicate {0} {A = ℕ} (length es) 0;
+          pairs = λ e. false-true (sym e);
           thirteen = λ l. is-own ∙ own.thirteen-of ts es (length rs) (bookOf s) (conclusions (bookOf s)) budget spare (omega (arith, due true z));
           fine = λ l. is-own ∙ own.clash-of ts es (length rs) (bookOf s) (conclusions (bookOf s)) budget spare (omega (arith, due true z)) z;
         }
@@ -136,9 +179,10 @@ module _ (s : List ℕ) (budget : ℕ) (ts es rs : List ℕ) where
 
         stood-finished : clashes (bookOf s) (conclusions (bookOf s)) ≡ false → Stood (listing ts es ps (bookOf s) (conclusions (bookOf s))) (finished T E Q)
         stood-finished z = record {
-          ran = record { whole = whole; types = refl; edges = refl; clash = sym z; room = omega (arith, all) };
+          ran = record { whole = whole; types = refl; edges = refl; joinings = refl; clash = sym z; room = omega (arith, all) };
           types-long = plain.types-length ts es ps (bookOf s) (conclusions (bookOf s)) budget (listing ts es ps (bookOf s) (conclusions (bookOf s))) (is-finished z);
           edges-long = plain.edges-length ts es ps (bookOf s) (conclusions (bookOf s)) budget (listing ts es ps (bookOf s) (conclusions (bookOf s))) (is-finished z);
+          pairs = λ e. refl;
           thirteen = λ l. is-own ∙ own.thirteen-of ts es (length rs) (bookOf s) (conclusions (bookOf s)) budget spare (omega (arith, due false z));
           fine = λ l. is-own ∙ own.finished-of ts es (length rs) (bookOf s) (conclusions (bookOf s)) budget spare (omega (arith, due false z)) z;
         }
@@ -171,6 +215,7 @@ module _ (s : List ℕ) (budget : ℕ) (ts es rs : List ℕ) where
     whole = w .ran .whole;
     types = w .ran .types;
     edges = w .ran .edges;
+    joinings = w .ran .joinings;
     clash = w .ran .clash;
     room = omega (arith, w .ran .room, ap length e, w .types-long);
   }

@@ -1,4 +1,4 @@
--- Every listing is accepted whole: of its rows, with 0s behind, exactly as many stand as it has facts, and one more after a clash.
+-- Every listing is accepted whole: of its rows, with 0s behind, exactly as many stand as it has facts and joinings, and one more after a clash.
 use Prim.Native.Nat.{ℕ, _+_, _*_, _/_, _<_, _≤_}
 use native.Mathlib.Decide.{ℕ-discrete}
 use native.Mathlib.Omega.{arith}
@@ -12,11 +12,11 @@ use Rattle.book.specs.Book.{Book}
 use Rattle.book.specs.declared.header.Counts.{Counts}
 use Rattle.rules.specs.Rule.{Set}
 use Rattle.rules.specs.Clash.{clashes}
-use Rattle.rules.specs.Lists.{used}
 use Rattle.derivation.specs.declared.row.Row.{Row}
 use Rattle.derivation.specs.Rows.{rowAt, Claim, nothing, claim, named, earlier}
 use Rattle.derivation.specs.Accept.{follows, accepts, stands}
 use Rattle.derivation.proofs.Stand.{stands-all, stands-stopped}
+use Rattle.steps.specs.Joinings.{dueCount}
 use Rattle.listing.specs.Listing.{rowCount, Listing}
 
 and-false : (a : Bool) → (a && false) ≡ false
@@ -49,10 +49,10 @@ module _ (B : Book) (l : List ℕ) where
     unfolding rowCount
     each-accepted = go (clashes B S) refl
       where
-        go : (b : Bool) → clashes B S ≡ b → (k : ℕ) → k < used B S + pick b 1 0 → accepts B l k ≡ true
-        go true c k q = last (ℕ-discrete k (used B S))
+        go : (b : Bool) → clashes B S ≡ b → (k : ℕ) → k < dueCount B S + pick b 1 0 → accepts B l k ≡ true
+        go true c k q = last (ℕ-discrete k (dueCount B S))
           where
-            last : Dec (k ≡ used B S) → accepts B l k ≡ true
+            last : Dec (k ≡ dueCount B S) → accepts B l k ≡ true
             last (yes i) = subst (λ (x : ℕ). accepts B l x ≡ true) (sym i) (h .ends-clash c .0)
             last (no i) = h .facts .accepted k (omega arith)
         go false c k q = h .facts .accepted k (omega arith)

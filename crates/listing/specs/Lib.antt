@@ -1,5 +1,7 @@
--- Listings of a run (request No. 6).
+-- Listings of a run (requests No. 6 and No. 10).
 pub mod Listing
 pub mod Clashes
+pub mod Told
+pub mod Joins
 pub mod Filled
 pub mod Running

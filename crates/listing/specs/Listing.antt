@@ -14,18 +14,19 @@ use Rattle.rules.specs.Lists.{types, edges, pairs, used, entries2, entries3, fi
 use Rattle.rules.specs.Ends.{End, Refused, Spent, Clash, Finished, onDecoded}
 use Rattle.derivation.specs.Rows.{clash}
 use Rattle.derivation.specs.Accept.{claimAt, accepts}
+use Rattle.steps.specs.Joinings.{dueCount, dueOf}
 use Rattle.steps.specs.Written.{Written}
 
--- one row for each fact, and one for a clash
+-- one row for each type, each edge and each joining, and one for a clash
 unfoldable pub rowCount : Book → Set → ℕ
-rowCount B S = used B S + pick (clashes B S) 1 0
+rowCount B S = dueCount B S + pick (clashes B S) 1 0
 
 -- THE COMMON PROPERTY of the listings of a book with the facts S, in a list of n entries: which derivation a fact has, and the order, is free
 pub record Listing (B : Book) (S : Set) (n : ℕ) (l : List ℕ) : Type 0 where
   pub room : length l ≡ n
   pub fits : 9 * rowCount B S ≤ n
-  pub facts : Written B S (used B S) l
-  pub ends-clash : clashes B S ≡ true → (accepts B l (used B S) ≡ true) × (claimAt B l (used B S) ≡ clash)
+  pub facts : Written B (dueOf B S) (dueCount B S) l
+  pub ends-clash : clashes B S ≡ true → (accepts B l (dueCount B S) ≡ true) × (claimAt B l (dueCount B S) ≡ clash)
   pub behind : (i : ℕ) → 9 * rowCount B S ≤ i → i < n → _≡_ {A = ℕ} (getD l i 0) 0
 
 -- the end of such a run, and its type list and edge list at exit

@@ -11,18 +11,24 @@ use Rattle.rules.specs.Clash.{clashes}
 use Rattle.rules.specs.Lists.{types, edges, pairs, used, entries2, filled}
 use Rattle.rules.specs.Ends.{End, Refused, Clash, Finished}
 use Rattle.tables.specs.Open.{bookOf}
+use Rattle.steps.specs.Joinings.{joinings}
 use Rattle.listing.specs.declared.run.Numbers.{Numbers}
 use Rattle.listing.specs.Listing.{Ended, zeros, Listing}
 
+-- the numbers of a run of the bytes s, with the joinings that there are
+abbrev pub numbersOf : List ℕ → ℕ → ℕ → ℕ → Bool → Numbers
+numbersOf s t e p c = record { types = t; edges = e; pairs = p; joinings = length (joinings (bookOf s) (conclusions (bookOf s))); clashes = c }
+
 -- how many rows the numbers ask for
 abbrev pub rowsFor : Numbers → ℕ
-rowsFor r = r .types + r .edges + pick (r .clashes) 1 0
+rowsFor r = r .types + r .edges + r .joinings + pick (r .clashes) 1 0
 
 -- the numbers are those of the book that the bytes are, whose types fit into the list
 pub record Ran (s : List ℕ) (r : Numbers) (ts : List ℕ) : Type 0 where
   pub whole : decode s ≡ accepted (bookOf s)
   pub types : r .types ≡ length (types (bookOf s) (conclusions (bookOf s)))
   pub edges : r .edges ≡ length (edges (bookOf s) (conclusions (bookOf s)))
+  pub joinings : r .joinings ≡ length (joinings (bookOf s) (conclusions (bookOf s)))
   pub clash : r .clashes ≡ clashes (bookOf s) (conclusions (bookOf s))
   pub room : 2 * r .types ≤ length ts
 

@@ -5,10 +5,9 @@ ghost use Prim.Native.Nat.{_+_, _*_, _≤_, _<_};
 ghost use lib.ListN.{length};
 ghost use Rattle.rows.specs.Table.{Table};
 ghost use Rattle.rules.specs.Clash.{clashes};
-ghost use Rattle.tables.specs.Open.{bookOf, sizeOf, Open};
-ghost use Rattle.rounds.specs.View.{facts};
+ghost use Rattle.tables.specs.Open.{bookOf, Open};
 ghost use Rattle.derivation.specs.Tables.{PairsOf};
-ghost use Rattle.steps.specs.Written.{Listed};
+ghost use Rattle.steps.specs.Written.{knownIn, Listed};
 ghost use Rattle.listing.specs.Clashes.{Partner, Pair, Clashing, ClashPut};
 use book::header::Counts;
 use derivation::row::NONE;
@@ -107,7 +106,7 @@ pub fn put_clash(
     requires { ⌜ Listed (now book) counts (now t) n (now rows) ⌝ }
     requires { ⌜ Open (now book) counts (now offsets) ⌝ }
     requires { ⌜ PairsOf (bookOf (now book)) counts (now pairs) × (2048 ≤ length (now pairs)) × (9 * n + 9 ≤ length (now rows)) ⌝ }
-    requires { ⌜ clashes (bookOf (now book)) (facts (sizeOf counts) (now t)) ≡ true ⌝ }
+    requires { ⌜ clashes (bookOf (now book)) (knownIn counts (now t)) ≡ true ⌝ }
     ensures { λ _. ⌜ ClashPut (bookOf (now (book .entry))) (now (rows .entry)) n (now (rows .exit)) ⌝ }
 {
     let size = size_of(counts);

@@ -1,4 +1,6 @@
-// Listings (request No. 6): a run that lends a row list gets, for each fact of the smallest sets, a row that derives it.
+// Listings (requests No. 6 and No. 10): a run that lends a row list gets, for each fact of the smallest sets and each joining, a row that derives it.
 pub mod clash; // the row of a clash
 pub mod fill; // the rows
+mod join; // how many joinings are due
 pub mod run; // the open function
+mod tell; // the told-same classes

@@ -1,18 +1,23 @@
 // A run that lends a row list in place of the pair list: the run itself first, and then its rows.
 ghost use mathlib.Core.Path.{_≡_};
+ghost use mathlib.Core.Bool.{false};
 ghost use Prim.Native.Nat.{_+_, _*_, _≤_};
 ghost use lib.ListN.{length, replicate};
-ghost use Rattle.book.specs.Reader.{rest};
+ghost use Rattle.book.specs.Book.{accepted, decode};
 ghost use Rattle.book.specs.Read.{pick};
+ghost use Rattle.book.specs.Reader.{rest};
 ghost use Rattle.rows.specs.Table.{Table};
-ghost use Rattle.rules.specs.Lists.{entries2, filled};
+ghost use Rattle.rules.specs.Meaning.{conclusions};
+ghost use Rattle.rules.specs.Lists.{used as usedOf, pairs as pairsOf, entries2, filled};
 ghost use Rattle.rules.specs.Ends.{outcome};
 ghost use Rattle.tables.specs.Open.{bookOf, sizeOf, Open};
 ghost use Rattle.verdict.specs.Listing.{typesOf};
 ghost use Rattle.verdict.specs.Conclude.{endOf};
+ghost use Rattle.steps.specs.Joinings.{joinings};
 ghost use Rattle.listing.specs.Listing.{RowsRun};
-ghost use Rattle.listing.specs.Running.{Ran, RowsLeft, RunListed, ended-as};
+ghost use Rattle.listing.specs.Running.{numbersOf, rowsFor, Ran, RowsLeft, RunListed, ended-as};
 use super::fill::fill_rows;
+use super::join::count_joinings;
 use book::check::Checked;
 use book::check::check_book;
 use book::header::Counts;
@@ -23,11 +28,12 @@ use verdict::end::End;
 use verdict::list::clear;
 use verdict::list::list_types;
 
-// What a run came to: how many types, edges and same pairs, and whether it is a clash.
+// What a run came to: how many types, edges, same pairs and joinings, and whether it is a clash.
 pub struct Numbers {
     pub types: u32,
     pub edges: u32,
     pub pairs: u32,
+    pub joinings: u32,
     pub clashes: bool,
 }
 
@@ -41,10 +47,10 @@ fn clear_both(types: &mut [u32], edges: &mut [u32])
 
 // How many entries the rows take.
 fn entries_due(numbers: Numbers) -> usize
-    requires { ⌜ numbers .types + numbers .edges ≤ 16908288 ⌝ }
-    ensures { λ r. ⌜ r ≡ 9 * (numbers .types + numbers .edges + pick (numbers .clashes) 1 0) ⌝ }
+    requires { ⌜ numbers .types + numbers .edges + numbers .joinings ≤ 17170432 ⌝ }
+    ensures { λ r. ⌜ r ≡ 9 * rowsFor numbers ⌝ }
 {
-    let n = (numbers.types + numbers.edges) as usize;
+    let n = (numbers.types + numbers.edges + numbers.joinings) as usize;
     if numbers.clashes {
         return 9 * (n + 1);
     }
@@ -85,12 +91,15 @@ fn list_checked(
 )
     requires { ⌜ Open (now book) counts (now offsets) ⌝ }
     requires { ⌜ rest (now book) counts from ≡ bookOf (now book) .statements ⌝ }
-    requires { ⌜ Ran (now book) numbers (now types) × (9 * (numbers .types + numbers .edges + pick (numbers .clashes) 1 0) ≤ length (now rows)) ⌝ }
+    requires { ⌜ Ran (now book) numbers (now types) × (9 * rowsFor numbers ≤ length (now rows)) ⌝ }
     ensures { λ _. ⌜ RowsLeft (now (book .entry)) numbers (now (types .entry)) (now (rows .entry)) (now (types .exit)) (now (rows .exit)) ⌝ }
 {
-    let mut t = [0u64; 532520];
-    let used = numbers.types + numbers.edges;
-    let due = Due { counts, used };
+    let mut t = [0u64; 536616];
+    let rows_due = numbers.types + numbers.edges + numbers.joinings;
+    let due = Due {
+        counts,
+        rows: rows_due,
+    };
     clear(types, 0);
     fill_rows(
         book,
@@ -114,7 +123,7 @@ fn list_any(
     rows: &mut [u32],
 )
     requires { ⌜ 4096 ≤ length (now offsets) ⌝ }
-    requires { ⌜ Ran (now book) numbers (now types) × (9 * (numbers .types + numbers .edges + pick (numbers .clashes) 1 0) ≤ length (now rows)) ⌝ }
+    requires { ⌜ Ran (now book) numbers (now types) × (9 * rowsFor numbers ≤ length (now rows)) ⌝ }
     ensures { λ _. ⌜ RowsLeft (now (book .entry)) numbers (now (types .entry)) (now (rows .entry)) (now (types .exit)) (now (rows .exit)) ⌝ }
 {
     let check = check_book(book, offsets);
@@ -126,7 +135,7 @@ fn list_any(
 
 // The rows of a book that was run.
 fn list_rows(book: &[u8], numbers: Numbers, types: &mut [u32], rows: &mut [u32])
-    requires { ⌜ Ran (now book) numbers (now types) × (9 * (numbers .types + numbers .edges + pick (numbers .clashes) 1 0) ≤ length (now rows)) ⌝ }
+    requires { ⌜ Ran (now book) numbers (now types) × (9 * rowsFor numbers ≤ length (now rows)) ⌝ }
     ensures { λ _. ⌜ RowsLeft (now (book .entry)) numbers (now (types .entry)) (now (rows .entry)) (now (types .exit)) (now (rows .exit)) ⌝ }
 {
     let mut offsets = [0usize; 4096];
@@ -161,6 +170,39 @@ fn run_listed(
     end_with(numbers)
 }
 
+// How many joinings a run that is a clash or finished has: none where it finished with no same pair, and then there is nothing to run again for.
+fn joinings_due(book: &[u8], used: u32, pairs: u32, clashes: bool) -> u32
+    requires { ⌜ decode (now book) ≡ accepted (bookOf (now book)) ⌝ }
+    requires { ⌜ used ≡ usedOf (bookOf (now book)) (conclusions (bookOf (now book))) ⌝ }
+    requires { ⌜ (clashes ≡ false → pairs ≡ length (pairsOf (bookOf (now book)) (conclusions (bookOf (now book))))) ⌝ }
+    ensures { λ r. ⌜ r ≡ length (joinings (bookOf (now (book .entry))) (conclusions (bookOf (now (book .entry))))) ⌝ }
+{
+    if clashes {
+        return count_joinings(book, used);
+    }
+    if pairs == 0 {
+        return 0;
+    }
+    count_joinings(book, used)
+}
+
+// The numbers of a run that is a clash or finished, with the joinings.
+fn number(book: &[u8], types: u32, edges: u32, pairs: u32, clashes: bool) -> Numbers
+    requires { ⌜ decode (now book) ≡ accepted (bookOf (now book)) ⌝ }
+    requires { ⌜ types + edges ≡ usedOf (bookOf (now book)) (conclusions (bookOf (now book))) ⌝ }
+    requires { ⌜ (clashes ≡ false → pairs ≡ length (pairsOf (bookOf (now book)) (conclusions (bookOf (now book))))) ⌝ }
+    ensures { λ r. ⌜ r ≡ numbersOf (now (book .entry)) types edges pairs clashes ⌝ }
+{
+    let joinings = joinings_due(book, types + edges, pairs, clashes);
+    Numbers {
+        types,
+        edges,
+        pairs,
+        joinings,
+        clashes,
+    }
+}
+
 // Runs the book and lists its rows: any bytes, any budget, any lists. End, type list and edge list are the defined ones; and the row list is as it was, or
 // a listing of the book.
 pub fn saturate_rows(
@@ -177,21 +219,11 @@ pub fn saturate_rows(
         End::Refused(n) => End::Refused(n),
         End::Spent => End::Spent,
         End::Clash(t, e) => {
-            let numbers = Numbers {
-                types: t,
-                edges: e,
-                pairs: 0,
-                clashes: true,
-            };
+            let numbers = number(book, t, e, 0, true);
             run_listed(book, numbers, types, edges, rows)
         }
         End::Finished(t, e, p) => {
-            let numbers = Numbers {
-                types: t,
-                edges: e,
-                pairs: p,
-                clashes: false,
-            };
+            let numbers = number(book, t, e, p, false);
             run_listed(book, numbers, types, edges, rows)
         }
     }

@@ -9,8 +9,8 @@ use lib.Dec.{ltb}
 use borrow.Author.Tests.{lt-ltb, le-ltb, ltb-true}
 use Rattle.book.specs.Read.{pick}
 use Rattle.book.specs.Book.{Book, Decoded, accepted, refused, decode}
+use Rattle.rules.specs.Fact.{pair}
 use Rattle.rules.specs.Brought.{concept}
-use Rattle.rules.specs.ToldSame.{same}
 use Rattle.rules.specs.Meaning.{conclusions}
 use Rattle.rules.specs.Ends.{End, Refused, Spent, Clash, Finished, Outcome, untouched, onDecoded, outcomeOf}
 use Rattle.rules.specs.Spoken.{Reader, spoken, decodeFor}
@@ -18,12 +18,12 @@ use Rattle.rules.specs.World.{World, Fits}
 use Rattle.rules.specs.Plain.{Plain}
 use Rattle.rules.proofs.Tests.{false-true, and-both, and-intro}
 use Rattle.rules.proofs.Inside.{Inside, accepted-inside}
-use Rattle.rules.proofs.Sound.{conclusions-true, same-true}
+use Rattle.rules.proofs.Sound.{conclusions-true, to-pair}
 use Rattle.rules.proofs.Complete.{canonical, canonical-fits}
 use Rattle.rules.proofs.Ended.{ends-finished}
 use Rattle.rules.proofs.Spoken.{spoken-inside, decoded-for, refused-end}
-use Rattle.member.specs.Shown.{shown, oneClass, shownIn, Positive}
-use Rattle.member.specs.Answer.{Answer, Shown, NotShown, Ended, Answered, judged, answered, asked, questioned, memberOf, member, memberFor}
+use Rattle.member.specs.Shown.{inOneClass, shownIn, Positive}
+use Rattle.member.specs.Answer.{Answer, Shown, NotShown, Ended, judged, answered, asked, questioned, memberOf, member, memberFor}
 use Rattle.member.specs.Judgement.{Member, Judgement}
 use Rattle.member.proofs.True.{shown-of}
 use Rattle.member.proofs.False.{member-shown}
@@ -88,20 +88,20 @@ module _ (budget : ℕ) (ts es ps : List ℕ) (i c : ℕ) where
     accepts q = ap (questioned i c) book ∙ ap (λ (b : Bool). pick b (accepted B) (refused 17)) q
 
     holds : (t e p : ℕ) → answer ≡ Shown t e p → (W : World) → Fits W B → Member W B i c
-    unfolding shownIn oneClass
+    unfolding shownIn inOneClass
     holds t e p q W fits =
         let f = shown-from (shownIn B i c) (run .end) t e p (sym answer-is ∙ q) in
         let k = and-both (ltb i (B .counts .individuals)) (ltb c (B .counts .concepts)) (own t e p (f .0)) in
-        shown-of W B inside (conclusions B) (same B) (conclusions-true W B inside fits) (same-true W B inside fits) (concept B c) (inside .concepts c) i (ltb-true i (B .counts .individuals) (k .0)) (f .1)
+        shown-of W B inside (conclusions B) (inOneClass B) (conclusions-true W B inside fits) (λ i b m q. to-pair W B inside i b m (conclusions-true W B inside fits (pair i b) q)) (concept B c) (inside .concepts c) i (ltb-true i (B .counts .individuals) (k .0)) (f .1)
 
     fails : Plain B → Positive (concept B c) → (t e p : ℕ) → answer ≡ NotShown t e p → (W : World) × Fits W B × (¬ Member W B i c)
-    unfolding shownIn oneClass
+    unfolding shownIn inOneClass
     fails plain positive t e p q =
         let f = not-from (shownIn B i c) (run .end) t e p (sym answer-is ∙ q) in
         let a = own t e p (f .0) in
         let k = and-both (ltb i (B .counts .individuals)) (ltb c (B .counts .concepts)) a in
         let calm = ends-finished ts es ps (questioned i c d) budget B (accepts a) t e p (f .0) .calm in
-        (canonical B, canonical-fits B inside plain calm, λ m. false-true (sym (f .1) ∙ member-shown B inside (concept B c) positive (inside .concepts c) i (ltb-true i (B .counts .individuals) (k .0)) m))
+        (canonical B inside, canonical-fits B inside plain calm, λ m. false-true (sym (f .1) ∙ member-shown B inside (concept B c) positive (inside .concepts c) i (ltb-true i (B .counts .individuals) (k .0)) m))
 
     pub judgement-of : Judgement B i c (memberOf d budget ts es ps i c .answer)
     judgement-of = record { shown-true = holds; plain-false = fails }

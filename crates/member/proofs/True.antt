@@ -15,7 +15,7 @@ use Rattle.rules.proofs.Sound.{truth, to-class, to-leads}
 use Rattle.member.specs.Shown.{shown, shownAll, shownSome}
 
 -- of facts that are true, and of classes whose individuals are one thing each
-module _ (W : World) (B : Book) (inside : Inside B) (S : Set) (C : ℕ → ℕ → Bool) (true-facts : In S (truth W)) (one-thing : (i b : ℕ) → C i b ≡ true → W .ind i ≡ W .ind b) where
+module _ (W : World) (B : Book) (inside : Inside B) (S : Set) (C : ℕ → ℕ → Bool) (true-facts : In S (truth W)) (one-thing : (i b : ℕ) → b < B .counts .individuals → C i b ≡ true → W .ind i ≡ W .ind b) where
   abbrev n : ℕ
   n = B .counts .individuals
 
@@ -23,8 +23,8 @@ module _ (W : World) (B : Book) (inside : Inside B) (S : Set) (C : ℕ → ℕ �
     pub shown-of : (e : Concept) → ConceptIn (B .counts) e → (i : ℕ) → i < n → shown n S C e i ≡ true → Of W e (W .ind i)
     shown-of Top w i l q = tt
     shown-of Bot w i l q = false-true q
-    shown-of (Atomic c) w i l q = to-class W B inside i c w (true-facts _ q)
-    shown-of (Nominal b) w i l q = one-thing i b q
+    shown-of (Atomic c) w i l q = to-class W B inside i c l w (true-facts _ q)
+    shown-of (Nominal b) w i l q = one-thing i b w q
     shown-of (SelfRestriction ρ) w i l q = to-leads W B inside ρ i i w l l (true-facts _ q)
     shown-of (Not e) w i l q = false-true q
     shown-of (And es) w i l q = all-of es w i l q

@@ -4,10 +4,9 @@ use mathlib.Core.Bool.{Bool, true, false, _&&_, _||_}
 use Rattle.book.specs.Tree.{Concept, Concepts, Top, Bot, Atomic, Nominal, SelfRestriction, Not, And, Or, Some, All, Min, Max, none, more}
 use Rattle.book.specs.Book.{Book}
 use Rattle.book.specs.declared.role.Role.{Role}
-use Rattle.rules.specs.Fact.{edge, type}
+use Rattle.rules.specs.Fact.{edge, type, pair}
 use Rattle.rules.specs.Rule.{Set, any}
 use Rattle.rules.specs.Brought.{concept}
-use Rattle.rules.specs.ToldSame.{same}
 use Rattle.rules.specs.Meaning.{conclusions}
 
 -- For n individuals, the facts S, and the classes C of individuals that are one: of a concept, of every part of a list, of some part of a list. An
@@ -36,13 +35,13 @@ module _ (n : ℕ) (S : Set) (C : ℕ → ℕ → Bool) where
     shownSome none i = false
     shownSome (more e es) i = shown e i || shownSome es i
 
--- both are in one class: the classes that the book tells to be the same, in which each is with itself
-unfoldable pub oneClass : Book → ℕ → ℕ → Bool
-oneClass B = same B
+-- both are in one class, told or found, in which each is with itself
+unfoldable pub inOneClass : Book → ℕ → ℕ → Bool
+inOneClass B i j = conclusions B (pair i j)
 
 -- whether concept c of a book is shown for the individual i
 unfoldable pub shownIn : Book → ℕ → ℕ → Bool
-shownIn B i c = shown (B .counts .individuals) (conclusions B) (oneClass B) (concept B c) i
+shownIn B i c = shown (B .counts .individuals) (conclusions B) (inOneClass B) (concept B c) i
 
 -- a concept built of the kinds that can be shown, alone
 mutual

@@ -195,14 +195,15 @@ fn counts_agree(head: Head, types: u32, edges: u32, pairs: u32) -> bool {
         word(b"differs: finished, recorded clash");
         return false;
     }
-    if head.rule == 3 {
+    if head.rule == 2 {
         return true;
     }
     same_counts(head, types, edges, pairs)
 }
 
+// By rule 2 the Rust may finish where ours clashes.
 fn clash_agrees(head: Head) -> bool {
-    if head.rule == 3 {
+    if head.rule == 2 {
         return true;
     }
     if head.clash == 1 {

@@ -17,7 +17,7 @@ use Rattle.book.specs.Concept.{conceptStart, partList, bound, conceptTail, conc
 use Rattle.book.specs.Statement.{statementStart, pathOf, axiomOf, statementEnd, statementRest, statement}
 use Rattle.book.specs.Tree.{partTrees}
 use Rattle.book.specs.Book.{Book, concepts, book, Decoded, refused, accepted, decode}
-use Rattle.rules.specs.Fact.{edge, type}
+use Rattle.rules.specs.Fact.{edge, type, pair}
 use Rattle.rules.specs.Rule.{Set, Rule, keep, when, each, both, Obeys, yields}
 use Rattle.rules.specs.Brought.{atomics, values, markers}
 use Rattle.rules.specs.ToldSame.{labels, label, same}
@@ -159,7 +159,7 @@ test-facts (refused n) l = true
 test-facts (accepted B) l = obeys (rules B) (mem l) && drawn (rules B) l
 
 -- facts that obey the rules and were each drawn by them are the conclusions
-are-facts : (B : Book) → Inside B → (l : List ℕ) → test-facts (accepted B) l ≡ true → mem l ≡ conclusions B
+pub are-facts : (B : Book) → Inside B → (l : List ℕ) → test-facts (accepted B) l ≡ true → mem l ≡ conclusions B
 are-facts B inside l t =
     let f = and-both (obeys (rules B) (mem l)) (drawn (rules B) l) t in
     are-conclusions B inside (mem l) (obeys-true (rules B) (mem l) (f .0)) (drawn-in (rules B) l (f .1))
@@ -194,7 +194,7 @@ all-hold (b ∷ bs) e = let a = and-both (test b) (tests bs) e in (bar-holds b (
 
 -- the table
 tests-come-out : tests bars ≡ true
-unfolding test bars plainBar roleOf several byte twoBytes fourBytes field fieldsFrom fields statementAllows header conceptStart partList bound conceptTail conceptRest concept statementStart pathOf axiomOf statementEnd statementRest statement partTrees concepts book decode edge type atomics values markers labels label same rules samePair marked typeClash markerClash clashes types edges pairs used outcomeFrom
+unfolding test bars plainBar roleOf several byte twoBytes fourBytes field fieldsFrom fields statementAllows header conceptStart partList bound conceptTail conceptRest concept statementStart pathOf axiomOf statementEnd statementRest statement partTrees concepts book decode edge type pair atomics values markers rules samePair marked typeClash markerClash clashes types edges pairs used outcomeFrom
 tests-come-out = refl
 
 pub table : Every Holds bars
@@ -202,7 +202,7 @@ table = all-hold bars tests-come-out
 
 -- one row by itself
 plain-test : test plainBar ≡ true
-unfolding test plainBar roleOf several byte twoBytes fourBytes field fieldsFrom fields statementAllows header conceptStart partList bound conceptTail conceptRest concept statementStart pathOf axiomOf statementEnd statementRest statement partTrees concepts book decode edge type atomics values markers labels label same rules samePair marked typeClash markerClash clashes types edges pairs used outcomeFrom
+unfolding test plainBar roleOf several byte twoBytes fourBytes field fieldsFrom fields statementAllows header conceptStart partList bound conceptTail conceptRest concept statementStart pathOf axiomOf statementEnd statementRest statement partTrees concepts book decode edge type pair atomics values markers rules samePair marked typeClash markerClash clashes types edges pairs used outcomeFrom
 plain-test = refl
 
 pub plain-holds : Holds plainBar

@@ -15,6 +15,10 @@ pub mod Members
 pub mod Sources
 pub mod Sound
 pub mod SoundClash
+pub mod Classes
+pub mod Joins
+pub mod Held
+pub mod Found
 pub mod Complete
 pub mod Demand
 pub mod Spoken

@@ -23,16 +23,11 @@ use Rattle.rules.specs.Clash.{disjointBy, disjoint, marksBy, marked, typ
 use Rattle.rules.specs.Meaning.{ruleOf, sharing, rules, conclusions}
 use Rattle.rules.specs.Lists.{types, edges, pairs, used}
 use Rattle.rules.specs.Ends.{outcomeFrom}
-use Rattle.rules.proofs.Tests.{some-none, every-from, from-every}
+use Rattle.rules.proofs.Tests.{both-ways, some-none, every-from, from-every}
 use Rattle.rules.proofs.Least.{every-obeys, obeys-every}
 use Rattle.rules.proofs.Inside.{Inside}
 use Rattle.rules.proofs.Conclusions.{conclusions-obey, conclusions-least}
 use Rattle.rules.proofs.Labels.{Related, label-told, same-smallest, same-of}
-
-both-ways : (a b : Bool) → (a ≡ true → b ≡ true) → (b ≡ true → a ≡ true) → a ≡ b
-both-ways true b p q = sym (p refl)
-both-ways false true p q = q refl
-both-ways false false p q = refl
 
 pub none-some : {A : Type 0} (f : A → Bool) (l : List A) → Every (λ x. f x ≡ false) l → some l f ≡ false
 none-some f [] h = refl
@@ -119,38 +114,18 @@ module _ (B : Book) (m : ℕ) (zs : List Statement) (to : (P : Axiom → Type 0)
   marks-same (ClassAssertion c i) = refl
   marks-same (ObjectPropertyAssertion r i j) = refl
 
-  -- told-same classes: each is an equivalence that has the other's told pairs
-  told-other : Every (Related (λ a b. label other a ≡ label other b)) (toldSame B)
-  told-other =
-      let R : Two → Type 0 = Related (λ a b. label other a ≡ label other b) in
-      every-from (λ x. Every R (sameBy x)) R sameBy (λ x k. k) (axioms B) (back (λ x. Every R (sameBy x)) (from-every R sameBy (bodies zs) (label-told other)))
-
-  other-told : Every (Related (λ a b. label B a ≡ label B b)) (toldSame other)
-  other-told =
-      let R : Two → Type 0 = Related (λ a b. label B a ≡ label B b) in
-      every-from (λ x. Every R (sameBy x)) R sameBy (λ x k. k) (bodies zs) (to (λ x. Every R (sameBy x)) (from-every R sameBy (axioms B) (label-told B)))
-
-  told-same : (i j : ℕ) → same other i j ≡ same B i j
-  told-same i j =
-      both-ways (same other i j) (same B i j)
-      (λ e. same-of B i j (same-smallest other (λ a b. label B a ≡ label B b) (λ a b c p q. p ∙ q) (λ a b p. sym p) (λ a. refl) other-told i j e))
-      (λ e. same-of other i j (same-smallest B (λ a b. label other a ≡ label other b) (λ a b c p q. p ∙ q) (λ a b p. sym p) (λ a. refl) told-other i j e))
-
-  sharing-same : sharing other ≡ sharing B
-  sharing-same = simp told-same
-
   obeys-to : (X : Set) → Obeys (rules B) X → Obeys (rules other) X
   unfolding rules
   obeys-to X o = (
     subst (λ (R : Axiom → Rule). Obeys (every (bodies zs) R) X) (sym (fun-ext rule-same)) (every-obeys X (ruleOf B) (bodies zs) (to (λ x. Obeys (ruleOf B x) X) (obeys-every X (ruleOf B) (axioms B) (o .0)))),
-    subst (λ (R : Rule). Obeys R X) (sym sharing-same) (o .1),
+    o .1,
   )
 
   obeys-back : (X : Set) → Obeys (rules other) X → Obeys (rules B) X
   unfolding rules
   obeys-back X o = (
     every-obeys X (ruleOf B) (axioms B) (back (λ x. Obeys (ruleOf B x) X) (obeys-every X (ruleOf B) (bodies zs) (subst (λ (R : Axiom → Rule). Obeys (every (bodies zs) R) X) (fun-ext rule-same) (o .0)))),
-    subst (λ (R : Rule). Obeys R X) sharing-same (o .1),
+    o .1,
   )
 
   module _ (inside : Inside B) (inside′ : Inside other) where
@@ -187,13 +162,9 @@ module _ (B : Book) (m : ℕ) (zs : List Statement) (to : (P : Axiom → Type 0)
     unfolding clashes
     clashes-same = ap (any (B .counts .individuals)) (fun-ext (λ x. ap₂ (λ (a : Bool) (b : Bool). a || b) (type-clash-same x) (marker-clash-same x)))
 
-    pair-same : (i j : ℕ) → samePair other S i j ≡ samePair B S i j
-    unfolding samePair
-    pair-same i j = ap (λ (b : Bool). ltb i j && b) (ap (any (B .counts .individuals)) (fun-ext (λ a. functional-some (λ r. S (edge r a i) && S (edge r a j)))))
-
     pub pairs-same : pairs other S ≡ pairs B S
     unfolding pairs
-    pairs-same = simp pair-same
+    pairs-same = refl
 
     types-same : types other S ≡ types B S
     unfolding types

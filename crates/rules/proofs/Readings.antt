@@ -12,7 +12,7 @@ use Rattle.book.specs.Statement.{statementStart, pathOf, axiomOf, statementEnd,
 use Rattle.book.specs.Tree.{partTrees}
 use Rattle.book.specs.Book.{concepts, book, decode}
 use Rattle.book.specs.Within.{Every}
-use Rattle.rules.specs.Fact.{edge, type}
+use Rattle.rules.specs.Fact.{edge, type, pair}
 use Rattle.rules.specs.Brought.{atomics, values, markers}
 use Rattle.rules.specs.ToldSame.{labels, label, same}
 use Rattle.rules.specs.Meaning.{rules}
@@ -43,7 +43,7 @@ all-hold [] e = tt
 all-hold (x ∷ xs) e = let a = and-both (test x) (tests xs) e in (reading-holds x (a .0), all-hold xs (a .1))
 
 tests-come-out : tests readings ≡ true
-unfolding test readings roleOf several byte twoBytes fourBytes field fieldsFrom fields statementAllows header conceptStart partList bound conceptTail conceptRest concept statementStart pathOf axiomOf statementEnd statementRest statement partTrees concepts book decode edge type atomics values markers labels label same rules samePair marked typeClash markerClash clashes types edges pairs used outcomeFrom readable inForce heeded heedings decodeFor
+unfolding test readings roleOf several byte twoBytes fourBytes field fieldsFrom fields statementAllows header conceptStart partList bound conceptTail conceptRest concept statementStart pathOf axiomOf statementEnd statementRest statement partTrees concepts book decode edge type pair atomics values markers rules samePair marked typeClash markerClash clashes types edges pairs used outcomeFrom readable inForce heeded heedings decodeFor
 tests-come-out = refl
 
 pub table : Every Holds readings

@@ -3,6 +3,8 @@ use Prim.Native.Nat.{ℕ, _<_}
 use native.Mathlib.Omega.{arith}
 use mathlib.Core.Path.{_≡_, refl, sym, _∙_, subst}
 use mathlib.Core.Bool.{true}
+use lib.Dec.{eqb}
+use borrow.Author.Tests.{eqb-true, eq-eqb}
 use Rattle.book.specs.declared.header.Counts.{Counts}
 use Rattle.book.specs.declared.statement.SubRolePath.{SubRolePath}
 use Rattle.book.specs.declared.statement.SubRolePath.the-variants.{One, Two, Three}
@@ -14,24 +16,22 @@ use Rattle.book.specs.Book.{Book, axioms}
 use Rattle.book.specs.Role.{flipped}
 use Rattle.book.specs.declared.role.Role.{Role}
 use Rattle.book.specs.declared.role.Role.the-variants.{Named, Inverse}
-use Rattle.rules.specs.Fact.{setOf, edge, type}
+use Rattle.rules.specs.Fact.{setOf, edge, type, pair}
 use Rattle.rules.specs.Rule.{Set, Obeys}
 use Rattle.rules.specs.Brought.{concept, Value, listed, atomicOf, atomics, values}
-use Rattle.rules.specs.ToldSame.{sameBy, same}
-use Rattle.rules.specs.Meaning.{told, brings, bring, swap, under, merge, share, ruleOf, rules, conclusions}
+use Rattle.rules.specs.Meaning.{told, brings, bring, swap, under, join, oneClass, share, ruleOf, rules, conclusions}
 use Rattle.rules.specs.World.{World, Thing, leads, Leads, Of, Under, PathUnder, OneFiller, True, Fits}
 use Rattle.rules.specs.Applied.{In}
-use Rattle.rules.proofs.Tests.{stable, every-map, every-zip, every-and, every-from}
-use Rattle.rules.proofs.Least.{every-obeys, given-obeys}
-use Rattle.rules.proofs.Facts.{tested, set-edge, set-type}
+use Rattle.rules.proofs.Tests.{stable, every-map, every-zip, every-and}
+use Rattle.rules.proofs.Least.{every-obeys}
+use Rattle.rules.proofs.Facts.{tested, set-edge, set-type, set-pair}
 use Rattle.rules.proofs.Reading.{atomicOf-have, atomics-have, values-have}
 use Rattle.rules.proofs.Inside.{ConceptIn, Inside}
-use Rattle.rules.proofs.Labels.{Related, same-smallest}
 use Rattle.rules.proofs.Conclusions.{conclusions-least, atomics-in, values-in}
 
 -- the facts that are true in a world
 unfoldable pub truth : World → Set
-truth W = setOf (λ r a b. W .rol r (W .ind a) (W .ind b)) (λ i c. W .cls c (W .ind i))
+truth W = setOf (λ r a b. W .rol r (W .ind a) (W .ind b)) (λ i c. W .cls c (W .ind i)) (λ i j. eqb (W .ind i) (W .ind j))
 
 module _ (W : World) where
   -- the things of which G holds are of the expression
@@ -71,18 +71,30 @@ module _ (W : World) where
     flipped-within (Named r) l = l
     flipped-within (Inverse r) l = l
 
-    pub to-class : (i c : ℕ) → c < h .classes → truth W (type i c) ≡ true → W .cls c (W .ind i) ≡ true
+    truth-class : (i c : ℕ) → i < n → c < h .classes → truth W (type i c) ≡ W .cls c (W .ind i)
     unfolding truth
-    to-class i c l e = sym (set-type _ (λ i c. W .cls c (W .ind i)) i c (omega (arith, inside .limits .classes-top))) ∙ e
+    truth-class i c k l = set-type _ (λ i c. W .cls c (W .ind i)) _ i c (omega (arith, inside .limits .individuals-top)) (omega (arith, inside .limits .classes-top))
 
-    pub of-class : (i c : ℕ) → c < h .classes → W .cls c (W .ind i) ≡ true → truth W (type i c) ≡ true
+    pub to-class : (i c : ℕ) → i < n → c < h .classes → truth W (type i c) ≡ true → W .cls c (W .ind i) ≡ true
+    to-class i c k l e = sym (truth-class i c k l) ∙ e
+
+    pub of-class : (i c : ℕ) → i < n → c < h .classes → W .cls c (W .ind i) ≡ true → truth W (type i c) ≡ true
+    of-class i c k l e = truth-class i c k l ∙ e
+
+    truth-pair : (i j : ℕ) → j < n → truth W (pair i j) ≡ eqb (W .ind i) (W .ind j)
     unfolding truth
-    of-class i c l e = set-type _ (λ i c. W .cls c (W .ind i)) i c (omega (arith, inside .limits .classes-top)) ∙ e
+    truth-pair i j l = set-pair _ _ (λ i j. eqb (W .ind i) (W .ind j)) i j (omega (arith, inside .limits .individuals-top))
+
+    pub to-pair : (i j : ℕ) → j < n → truth W (pair i j) ≡ true → W .ind i ≡ W .ind j
+    to-pair i j l e = eqb-true (W .ind i) (W .ind j) (sym (truth-pair i j l) ∙ e)
+
+    pub of-pair : (i j : ℕ) → j < n → W .ind i ≡ W .ind j → truth W (pair i j) ≡ true
+    of-pair i j l e = truth-pair i j l ∙ eq-eqb (W .ind i) (W .ind j) e
 
     truth-leads : (ρ : Role) (a b : ℕ) → RoleWithin h ρ → a < n → b < n → truth W (edge ρ a b) ≡ leads W ρ (W .ind a) (W .ind b)
     unfolding truth
     truth-leads ρ a b i j k =
-        set-edge (λ r a b. W .rol r (W .ind a) (W .ind b)) _ ρ a b (omega (arith, inside .limits .roles-top)) (omega (arith, inside .limits .individuals-top)) (omega (arith, inside .limits .individuals-top))
+        set-edge (λ r a b. W .rol r (W .ind a) (W .ind b)) _ _ ρ a b (omega (arith, inside .limits .roles-top)) (omega (arith, inside .limits .individuals-top)) (omega (arith, inside .limits .individuals-top))
         ∙ tested-leads ρ a b
 
     pub to-leads : (ρ : Role) (a b : ℕ) → RoleWithin h ρ → a < n → b < n → truth W (edge ρ a b) ≡ true → Leads W ρ (W .ind a) (W .ind b)
@@ -105,7 +117,7 @@ module _ (W : World) where
       -- so what an assertion of it tells of an individual is true where G holds of its thing
       told-true : (i : ℕ) → i < n → G (W .ind i) → Obeys (told i (concept B c)) (truth W)
       told-true i k g = (
-        every-obeys (truth W) _ (atomics (concept B c)) (every-map _ _ (λ d l. of-class i d (l .0) (l .1 (W .ind i) (W .ind-thing i) g)) (atomics (concept B c)) all-atomics),
+        every-obeys (truth W) _ (atomics (concept B c)) (every-map _ _ (λ d l. of-class i d k (l .0) (l .1 (W .ind i) (W .ind-thing i) g)) (atomics (concept B c)) all-atomics),
         every-obeys (truth W) _ (values (concept B c)) (every-map _ _ (λ v l. of-leads (v .role) i (v .to) (l .0 .0) k (l .0 .1) (l .1 (W .ind i) (W .ind-thing i) g)) (values (concept B c)) all-values),
       )
 
@@ -113,7 +125,7 @@ module _ (W : World) where
     bring-true c d u = every-obeys (truth W) (λ a. brings n a (concept B d)) (atomicOf (concept B c)) (every-map _ _ one (atomicOf (concept B c)) (atomicOf-is (concept B c)))
       where
         one : (a : ℕ) → Atomic a ≡ concept B c → Obeys (brings n a (concept B d)) (truth W)
-        one a e i k p = told-true (λ x. W .cls a x ≡ true) d (λ x t g. u x t (subst (λ (k : Concept). Of W k x) e g)) i k (to-class i a (atomic-in c a e) p)
+        one a e i k p = told-true (λ x. W .cls a x ≡ true) d (λ x t g. u x t (subst (λ (k : Concept). Of W k x) e g)) i k (to-class i a k (atomic-in c a e) p)
 
     swap-true : (ρ σ : Role) → RoleWithin h ρ → RoleWithin h σ → ((x y : ℕ) → Thing W x → Thing W y → Leads W ρ x y → Leads W σ y x) → Obeys (swap n ρ σ) (truth W)
     swap-true ρ σ i j u a k b l e = of-leads σ b a j l k (u _ _ (W .ind-thing a) (W .ind-thing b) (to-leads ρ a b i k l e))
@@ -124,8 +136,11 @@ module _ (W : World) where
     under-true (Three ρ σ υ) τ w m u = λ a i b j e c k f d l g.
         of-leads τ a d m i l (u _ _ _ _ (W .ind-thing a) (W .ind-thing b) (W .ind-thing c) (W .ind-thing d) (to-leads ρ a b (w .0) i j e) (to-leads σ b c (w .1) j k f) (to-leads υ c d (w .2) k l g))
 
-    merge-true : (ρ : Role) → RoleWithin h ρ → OneFiller W ρ → Obeys (merge n (h .classes) ρ) (truth W)
-    merge-true ρ m u a i b j e c k f d l t = of-class c d l (subst (λ (x : ℕ). W .cls d x ≡ true) (u _ _ _ (W .ind-thing a) (W .ind-thing b) (W .ind-thing c) (to-leads ρ a b m i j e) (to-leads ρ a c m i k f)) (to-class b d l t))
+    join-true : (ρ : Role) → RoleWithin h ρ → OneFiller W ρ → Obeys (join n ρ) (truth W)
+    join-true ρ m u a i b j e c k f = of-pair b c k (u _ _ _ (W .ind-thing a) (W .ind-thing b) (W .ind-thing c) (to-leads ρ a b m i j e) (to-leads ρ a c m i k f))
+
+    oneClass-true : Obeys (oneClass n) (truth W)
+    oneClass-true i k = (of-pair i i k refl, λ j l e m o f. of-pair j m o (sym (to-pair i j l e) ∙ to-pair i m o f))
 
     ruleOf-true : (s : Axiom) → Within h s → True W B s → Obeys (ruleOf B s) (truth W)
     ruleOf-true (SubClassOf c d) w t = bring-true c d t
@@ -135,57 +150,36 @@ module _ (W : World) where
     ruleOf-true (SubObjectPropertyOf p τ) w t = under-true p τ (w .0) (w .1) t
     ruleOf-true (TransitiveRole ρ) w t = under-true (Two ρ ρ) ρ (w, w) w t
     ruleOf-true (SymmetricRole ρ) w t = swap-true ρ ρ w w (λ x y tx ty. t x y tx ty .0)
-    ruleOf-true (FunctionalRole ρ) w t = merge-true ρ w t
-    ruleOf-true (InverseFunctionalRole ρ) w t = merge-true (flipped ρ) (flipped-within ρ w) t
+    ruleOf-true (FunctionalRole ρ) w t = join-true ρ w t
+    ruleOf-true (InverseFunctionalRole ρ) w t = join-true (flipped ρ) (flipped-within ρ w) t
     ruleOf-true (ObjectPropertyDomain ρ c) w t =
         let G : ℕ → Type 0 = λ x. (y : ℕ) × Thing W y × Leads W ρ x y in
         every-obeys (truth W) _ (atomics (concept B c))
-        (every-map _ _ (λ d l a i b j e. of-class a d (l .0) (l .1 (W .ind a) (W .ind-thing a) (W .ind b, W .ind-thing b, to-leads ρ a b (w .0) i j e))) (atomics (concept B c)) (all-atomics G c (λ x tx g. t x (g .0) tx (g .1) (g .2))))
+        (every-map _ _ (λ d l a i b j e. of-class a d i (l .0) (l .1 (W .ind a) (W .ind-thing a) (W .ind b, W .ind-thing b, to-leads ρ a b (w .0) i j e))) (atomics (concept B c)) (all-atomics G c (λ x tx g. t x (g .0) tx (g .1) (g .2))))
     ruleOf-true (ObjectPropertyRange ρ c) w t =
         let G : ℕ → Type 0 = λ y. (x : ℕ) × Thing W x × Leads W ρ x y in
         every-obeys (truth W) _ (atomics (concept B c))
-        (every-map _ _ (λ d l a i b j e. of-class b d (l .0) (l .1 (W .ind b) (W .ind-thing b) (W .ind a, W .ind-thing a, to-leads ρ a b (w .0) i j e))) (atomics (concept B c)) (all-atomics G c (λ y ty g. t (g .0) y (g .1) ty (g .2))))
-    ruleOf-true (SameIndividual a b) w t = λ k l. absurd (omega arith)
+        (every-map _ _ (λ d l a i b j e. of-class b d j (l .0) (l .1 (W .ind b) (W .ind-thing b) (W .ind a, W .ind-thing a, to-leads ρ a b (w .0) i j e))) (atomics (concept B c)) (all-atomics G c (λ y ty g. t (g .0) y (g .1) ty (g .2))))
+    ruleOf-true (SameIndividual a b) w t = of-pair a b (w .1) t
     ruleOf-true (ClassAssertion c i) w t = told-true (λ x. x ≡ W .ind i) c (λ x tx g. subst (λ (y : ℕ). Of W (concept B c) y) (sym g) t) i (w .1) refl
     ruleOf-true (ObjectPropertyAssertion ρ a b) w t = of-leads ρ a b (w .0) (w .1) (w .2) t
 
-    -- the pairs that a true statement tells are one thing each
-    same-told : (s : Axiom) → True W B s → Every (Related (λ i j. W .ind i ≡ W .ind j)) (sameBy s)
-    same-told (SubClassOf c d) t = tt
-    same-told (EquivalentClasses c d) t = tt
-    same-told (DisjointClasses c d) t = tt
-    same-told (InverseObjectProperties ρ σ) t = tt
-    same-told (SubObjectPropertyOf p τ) t = tt
-    same-told (TransitiveRole ρ) t = tt
-    same-told (SymmetricRole ρ) t = tt
-    same-told (FunctionalRole ρ) t = tt
-    same-told (InverseFunctionalRole ρ) t = tt
-    same-told (ObjectPropertyDomain ρ c) t = tt
-    same-told (ObjectPropertyRange ρ c) t = tt
-    same-told (SameIndividual a b) t = (t, tt)
-    same-told (ClassAssertion c i) t = tt
-    same-told (ObjectPropertyAssertion ρ a b) t = tt
+    share-true : (i j : ℕ) → i < n → j < n → W .ind i ≡ W .ind j → Obeys (share n (h .classes) (h .roles) i j) (truth W)
+    share-true i j k l q = (
+      λ c m e. of-class j c l m (subst (λ (x : ℕ). W .cls c x ≡ true) q (to-class i c k m e)),
+      λ r m b o. (
+        λ e. of-leads (Named r) j b m l o (subst (λ (x : ℕ). Leads W (Named r) x (W .ind b)) q (to-leads (Named r) i b m k o e)),
+        λ e. of-leads (Named r) b j m o l (subst (λ (x : ℕ). Leads W (Named r) (W .ind b) x) q (to-leads (Named r) b i m o k e)),
+      ),
+    )
 
     module _ (fits : Fits W B) where
-      pub same-true : (i j : ℕ) → same B i j ≡ true → W .ind i ≡ W .ind j
-      unfolding Fits
-      same-true = same-smallest B (λ i j. W .ind i ≡ W .ind j) (λ i j k e f. e ∙ f) (λ i j e. sym e) (λ i. refl) (every-from (True W B) _ sameBy same-told (axioms B) fits)
-
-      share-true : (i j : ℕ) → i < n → j < n → W .ind i ≡ W .ind j → Obeys (share n (h .classes) (h .roles) i j) (truth W)
-      share-true i j k l q = (
-        λ c m e. of-class j c m (subst (λ (x : ℕ). W .cls c x ≡ true) q (to-class i c m e)),
-        λ r m b o. (
-          λ e. of-leads (Named r) j b m l o (subst (λ (x : ℕ). Leads W (Named r) x (W .ind b)) q (to-leads (Named r) i b m k o e)),
-          λ e. of-leads (Named r) b j m o l (subst (λ (x : ℕ). Leads W (Named r) (W .ind b) x) q (to-leads (Named r) b i m o k e)),
-        ),
-      )
-
       -- the true facts obey the rules
       pub truth-obeys : Obeys (rules B) (truth W)
       unfolding rules Fits
       truth-obeys = (
         every-obeys (truth W) (ruleOf B) (axioms B) (every-zip _ _ _ ruleOf-true (axioms B) (inside .statements) fits),
-        λ i k j l. given-obeys (truth W) (same B i j) _ (λ e. share-true i j k l (same-true i j e)),
+        (oneClass-true, λ i k j l e. share-true i j k l (to-pair i j l e)),
       )
 
       -- so what is concluded is true

@@ -14,7 +14,7 @@ use Rattle.book.specs.Tree.{Concept, Atomic}
 use Rattle.book.specs.Book.{Book, axioms}
 use Rattle.book.specs.declared.role.Role.{Role}
 use Rattle.book.specs.declared.role.Role.the-variants.{Named, Inverse}
-use Rattle.rules.specs.Fact.{edge, type, Two}
+use Rattle.rules.specs.Fact.{type, pair, Two}
 use Rattle.rules.specs.Rule.{Set}
 use Rattle.rules.specs.Brought.{concept, from, atomicOf, markers, Marker}
 use Rattle.rules.specs.Same.{functionalBy, functional, samePair}
@@ -24,7 +24,7 @@ use Rattle.rules.specs.Applied.{In}
 use Rattle.rules.proofs.Tests.{false-true, or-cases, and-both, any-some, every-some, every-and, every-append, every-from}
 use Rattle.rules.proofs.Reading.{markers-have}
 use Rattle.rules.proofs.Inside.{Inside}
-use Rattle.rules.proofs.Sound.{truth, Each, all-parts, atomicOf-is, flipped-within, to-class, to-leads, atomic-in}
+use Rattle.rules.proofs.Sound.{truth, Each, all-parts, atomicOf-is, flipped-within, to-class, to-leads, to-pair, atomic-in}
 
 module _ (W : World) (B : Book) (inside : Inside B) where
   abbrev h : Counts
@@ -125,56 +125,50 @@ module _ (W : World) (B : Book) (inside : Inside B) where
 
     -- of a set of true facts
     module _ (S : Set) (true-in : In S (truth W)) where
-      class-true : (x c : ℕ) → c < h .classes → S (type x c) ≡ true → W .cls c (W .ind x) ≡ true
-      class-true x c l e = to-class W B inside x c l (true-in (type x c) e)
+      class-true : (x c : ℕ) → x < n → c < h .classes → S (type x c) ≡ true → W .cls c (W .ind x) ≡ true
+      class-true x c k l e = to-class W B inside x c k l (true-in (type x c) e)
 
-      marked-true : (x r c : ℕ) → marked B S x r c ≡ true → HasMark (W .ind x) r c
+      marked-true : (x r c : ℕ) → x < n → marked B S x r c ≡ true → HasMark (W .ind x) r c
       unfolding marked
-      marked-true x r c e =
+      marked-true x r c k e =
           let m = every-some Marks _ (marks B) all-marks e in
           let a = and-both (S (type x (m .0 .left))) _ (m .2) in
           let b = and-both (eqb (m .0 .role) r) (eqb (m .0 .class) c) (a .1) in
-          subst (λ (k : ℕ). HasMark (W .ind x) k c) (eqb-true (m .0 .role) r (b .0))
-          (subst (λ (k : ℕ). HasMark (W .ind x) (m .0 .role) k) (eqb-true (m .0 .class) c (b .1))
-          (m .1 .1 (W .ind x) (W .ind-thing x) (class-true x (m .0 .left) (m .1 .0) (a .0))))
+          subst (λ (y : ℕ). HasMark (W .ind x) y c) (eqb-true (m .0 .role) r (b .0))
+          (subst (λ (y : ℕ). HasMark (W .ind x) (m .0 .role) y) (eqb-true (m .0 .class) c (b .1))
+          (m .1 .1 (W .ind x) (W .ind-thing x) (class-true x (m .0 .left) k (m .1 .0) (a .0))))
 
-      no-typeClash : (x : ℕ) → typeClash B S x ≡ true → ⊥
+      no-typeClash : (x : ℕ) → x < n → typeClash B S x ≡ true → ⊥
       unfolding typeClash
-      no-typeClash x e =
+      no-typeClash x k e =
           let p = every-some Disjoint _ (disjoint B) all-disjoint e in
           let a = and-both (S (type x (p .0 .one))) (S (type x (p .0 .other))) (p .2) in
-          p .1 .2 (W .ind x) (W .ind-thing x) (class-true x (p .0 .one) (p .1 .0) (a .0)) (class-true x (p .0 .other) (p .1 .1) (a .1))
+          p .1 .2 (W .ind x) (W .ind-thing x) (class-true x (p .0 .one) k (p .1 .0) (a .0)) (class-true x (p .0 .other) k (p .1 .1) (a .1))
 
       -- one filler cannot have both
-      no-both : (x : ℕ) (p : Two) → Disjoint p → (ρ : Role) → Functional ρ → bothMarked B S x p ρ ≡ true → ⊥
+      no-both : (x : ℕ) → x < n → (p : Two) → Disjoint p → (ρ : Role) → Functional ρ → bothMarked B S x p ρ ≡ true → ⊥
       unfolding leads
-      no-both x p d (Named r) f e =
+      no-both x i p d (Named r) f e =
           let m = and-both (marked B S x r (p .one)) (marked B S x r (p .other)) e in
-          marked-true x r (p .one) (m .0) (λ y ty l cy.
-          marked-true x r (p .other) (m .1) (λ z tz k cz.
+          marked-true x r (p .one) i (m .0) (λ y ty l cy.
+          marked-true x r (p .other) i (m .1) (λ z tz k cz.
           d .2 z tz (subst (λ (u : ℕ). W .cls (p .one) u ≡ true) (f .1 (W .ind x) y z (W .ind-thing x) ty tz l k) cy) cz))
-      no-both x p d (Inverse r) f e = false-true e
+      no-both x i p d (Inverse r) f e = false-true e
 
-      no-markerClash : (x : ℕ) → markerClash B S x ≡ true → ⊥
+      no-markerClash : (x : ℕ) → x < n → markerClash B S x ≡ true → ⊥
       unfolding markerClash
-      no-markerClash x e =
+      no-markerClash x k e =
           let p = every-some Disjoint _ (disjoint B) all-disjoint e in
           let a = and-both (not (eqb (p .0 .one) (p .0 .other))) _ (p .2) in
           let f = every-some Functional _ (functional B) all-functional (a .1) in
-          no-both x (p .0) (p .1) (f .0) (f .1) (f .2)
+          no-both x k (p .0) (p .1) (f .0) (f .1) (f .2)
 
       -- a clash of true facts leaves no world
       pub no-clash : clashes B S ≡ true → ⊥
       unfolding clashes
-      no-clash e = let a = any-some n _ e in ⊎-elim (no-typeClash (a .0)) (no-markerClash (a .0)) (or-cases (typeClash B S (a .0)) (markerClash B S (a .0)) (a .2))
+      no-clash e = let a = any-some n _ e in ⊎-elim (no-typeClash (a .0) (a .1)) (no-markerClash (a .0) (a .1)) (or-cases (typeClash B S (a .0)) (markerClash B S (a .0)) (a .2))
 
       -- a same pair of true facts is true
-      pub pair-true : (i j : ℕ) → i < n → j < n → samePair B S i j ≡ true → W .ind i ≡ W .ind j
+      pub pair-true : (i j : ℕ) → j < n → samePair S i j ≡ true → W .ind i ≡ W .ind j
       unfolding samePair
-      pair-true i j k l e =
-          let a = any-some n _ (and-both (ltb i j) _ e .1) in
-          let f = every-some Functional _ (functional B) all-functional (a .2) in
-          let b = and-both (S (edge (f .0) (a .0) i)) (S (edge (f .0) (a .0) j)) (f .2) in
-          f .1 .1 _ _ _ (W .ind-thing (a .0)) (W .ind-thing i) (W .ind-thing j)
-          (to-leads W B inside (f .0) (a .0) i (f .1 .0) (a .1) k (true-in _ (b .0)))
-          (to-leads W B inside (f .0) (a .0) j (f .1 .0) (a .1) l (true-in _ (b .1)))
+      pair-true i j l e = to-pair W B inside i j l (true-in (pair i j) (and-both (ltb i j) (S (pair i j)) e .1))

@@ -21,6 +21,11 @@ pub stable : (b : Bool) → ¬ ¬ (b ≡ true) → b ≡ true
 stable true h = refl
 stable false h = absurd (h (λ e. false-true e))
 
+pub both-ways : (a b : Bool) → (a ≡ true → b ≡ true) → (b ≡ true → a ≡ true) → a ≡ b
+both-ways true b p q = sym (p refl)
+both-ways false true p q = q refl
+both-ways false false p q = refl
+
 pub or-cases : (a b : Bool) → (a || b) ≡ true → (a ≡ true) ⊎ (b ≡ true)
 or-cases true b e = inl refl
 or-cases false b e = inr e
@@ -52,6 +57,11 @@ some-any (suc n) f k l e = go (ℕ-discrete k n) (λ q. some-any n f k q e)
     go : Dec (k ≡ n) → (k < n → any n f ≡ true) → (f n || any n f) ≡ true
     go (yes q) r = or-left (f n) (any n f) (subst (λ (x : ℕ). f x ≡ true) q e)
     go (no q) r = or-right (f n) (any n f) (r (omega arith))
+
+-- tests that agree below n
+pub any-same : (n : ℕ) (f g : ℕ → Bool) → ((k : ℕ) → k < n → f k ≡ g k) → any n f ≡ any n g
+any-same zero f g h = refl
+any-same (suc n) f g h = rw (h n (omega arith), any-same n f g (λ k l. h k (omega arith))) refl
 
 -- tests that fail
 pub or-none : (a b : Bool) → (a || b) ≡ false → (a ≡ false) × (b ≡ false)

@@ -13,7 +13,7 @@ use Rattle.book.specs.Tree.{Atomic, Top, Nominal, Some, And, none, more, partTr
 use Rattle.book.specs.Book.{Book, concepts, book, accepted, decode}
 use Rattle.book.specs.declared.role.Role.the-variants.{Named, Inverse}
 use Rattle.book.specs.declared.statement.SubRolePath.the-variants.{One}
-use Rattle.book.specs.declared.statement.Axiom.the-variants.{SubClassOf, EquivalentClasses, DisjointClasses, SubObjectPropertyOf, ObjectPropertyDomain, SameIndividual, ClassAssertion, ObjectPropertyAssertion}
+use Rattle.book.specs.declared.statement.Axiom.the-variants.{SubClassOf, EquivalentClasses, DisjointClasses, SubObjectPropertyOf, ObjectPropertyDomain, FunctionalRole, SameIndividual, ClassAssertion, ObjectPropertyAssertion}
 use Rattle.rules.specs.Ends.{Finished, Outcome, outcome}
 use Rattle.rules.specs.Plain.{anAtomic, simpleAtomic, simpleTop, simpleValue, nestedOne, nestedAnd, nestedNone, nestedMore, Plain}
 use Rattle.rules.specs.Demand.{UnlistedFalse}
@@ -23,7 +23,7 @@ use Rattle.rules.proofs.Demand.{demand}
 
 abbrev pub B : Book
 B = record {
-  counts = record { classes = 4; roles = 2; individuals = 3; concepts = 13; statements = 8 };
+  counts = record { classes = 4; roles = 2; individuals = 4; concepts = 13; statements = 10 };
   concepts =
       Atomic 0 ∷ Atomic 1 ∷ Atomic 2 ∷ Atomic 3 ∷ Top ∷ Nominal 2 ∷ Some (Named 1) (Nominal 2)
       ∷ And (more Top (more (Some (Named 1) (Nominal 2)) none))
@@ -39,9 +39,11 @@ B = record {
       ∷ bare (DisjointClasses 0 3)
       ∷ bare (SubObjectPropertyOf (One (Inverse 0)) (Named 1))
       ∷ bare (ObjectPropertyDomain (Inverse 0) 12)
+      ∷ bare (FunctionalRole (Named 0))
       ∷ bare (SameIndividual 0 1)
       ∷ bare (ClassAssertion 10 0)
       ∷ bare (ObjectPropertyAssertion (Named 0) 0 2)
+      ∷ bare (ObjectPropertyAssertion (Named 0) 1 3)
       ∷ [];
 }
 
@@ -64,8 +66,11 @@ plain = (
           (
             tt,
             (
-              nestedAnd (nestedMore (nestedAnd (nestedMore (nestedOne (simpleAtomic 0)) nestedNone)) (nestedMore (nestedOne simpleTop) nestedNone)),
-              (tt, tt),
+              tt,
+              (
+                nestedAnd (nestedMore (nestedAnd (nestedMore (nestedOne (simpleAtomic 0)) nestedNone)) (nestedMore (nestedOne simpleTop) nestedNone)),
+                (tt, (tt, tt)),
+              ),
             ),
           ),
         ),
@@ -77,9 +82,9 @@ plain = (
 abbrev run : Outcome
 run = outcome (plainBar .book) (plainBar .budget) (nines (plainBar .typeRoom)) (nines (plainBar .edgeRoom)) (nines (plainBar .pairRoom))
 
-ended : run .end ≡ Finished 8 6 0
+ended : run .end ≡ Finished 10 12 2
 unfolding plainBar
 ended = ap (λ (o : Outcome). o .end) plain-holds
 
-pub separated : UnlistedFalse B run 8 6
-separated = demand (plainBar .book) (plainBar .budget) (nines (plainBar .typeRoom)) (nines (plainBar .edgeRoom)) (nines (plainBar .pairRoom)) B decodes .plain-unlisted plain 8 6 0 ended
+pub separated : UnlistedFalse B run 10 12 2
+separated = demand (plainBar .book) (plainBar .budget) (nines (plainBar .typeRoom)) (nines (plainBar .edgeRoom)) (nines (plainBar .pairRoom)) B decodes .plain-unlisted plain 10 12 2 ended

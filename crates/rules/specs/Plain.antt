@@ -17,7 +17,7 @@ pub data Simple : Concept → Type 0 where
   simpleTop : Simple Top
   simpleValue : (r : Role) (b : ℕ) → Simple (Some r (Nominal b))
 
--- of a kind, or an And of such, at any depth (request No. 5)
+-- of a kind, or an And of such, at any depth
 mutual
   pub data Nested (P : Concept → Type 0) : Concept → Type 0 where
     nestedOne : {e : Concept} → P e → Nested P e
@@ -35,8 +35,7 @@ Right = Nested Simple
 abbrev pub Reach : Concept → Type 0
 Reach = Nested IsAtomic
 
--- left sides are Atomic, Equivalent and Disjoint stand between Atomics, and no role is functional; paths, domains and ranges may be of either
--- polarity (request No. 2)
+-- left sides are Atomic, Equivalent and Disjoint stand between Atomics
 abbrev pub PlainStatement : Book → Axiom → Type 0
 PlainStatement B (SubClassOf c d) = IsAtomic (concept B c) × Right (concept B d)
 PlainStatement B (EquivalentClasses c d) = IsAtomic (concept B c) × IsAtomic (concept B d)
@@ -45,8 +44,8 @@ PlainStatement B (InverseObjectProperties r s) = Unit {0}
 PlainStatement B (SubObjectPropertyOf p t) = Unit {0}
 PlainStatement B (TransitiveRole r) = Unit {0}
 PlainStatement B (SymmetricRole r) = Unit {0}
-PlainStatement B (FunctionalRole r) = ⊥
-PlainStatement B (InverseFunctionalRole r) = ⊥
+PlainStatement B (FunctionalRole r) = Unit {0}
+PlainStatement B (InverseFunctionalRole r) = Unit {0}
 PlainStatement B (ObjectPropertyDomain r c) = Reach (concept B c)
 PlainStatement B (ObjectPropertyRange r c) = Reach (concept B c)
 PlainStatement B (SameIndividual a b) = Unit {0}

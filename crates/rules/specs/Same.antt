@@ -1,4 +1,4 @@
--- "Same pairs": different fillers of one subject under a functional role, the lower number first. Pairs that only follow from other pairs are none.
+-- Functional roles, and "same pairs": all pairs of different individuals in one class, told or found, the lower number first.
 use Prim.Native.Nat.{ℕ}
 use mathlib.Core.Bool.{Bool, _&&_}
 use mathlib.Core.List.{List, [], _∷_}
@@ -8,8 +8,8 @@ use Rattle.book.specs.Book.{Book, axioms}
 use Rattle.book.specs.declared.role.Role.{Role}
 use Rattle.book.specs.declared.statement.Axiom.{Axiom}
 use Rattle.book.specs.declared.statement.Axiom.the-variants.{SubClassOf, EquivalentClasses, DisjointClasses, InverseObjectProperties, SubObjectPropertyOf, TransitiveRole, SymmetricRole, FunctionalRole, InverseFunctionalRole, ObjectPropertyDomain, ObjectPropertyRange, SameIndividual, ClassAssertion, ObjectPropertyAssertion}
-use Rattle.rules.specs.Fact.{edge}
-use Rattle.rules.specs.Rule.{Set, any, some}
+use Rattle.rules.specs.Fact.{pair}
+use Rattle.rules.specs.Rule.{Set}
 use Rattle.rules.specs.Brought.{from}
 
 -- the role that a statement makes functional (rule 7)
@@ -34,5 +34,5 @@ abbrev pub functional : Book → List Role
 functional B = from (axioms B) functionalBy
 
 -- (i, j) is a same pair of the set S
-unfoldable pub samePair : Book → Set → ℕ → ℕ → Bool
-samePair B S i j = ltb i j && any (B .counts .individuals) (λ a. some (functional B) λ r. S (edge r a i) && S (edge r a j))
+unfoldable pub samePair : Set → ℕ → ℕ → Bool
+samePair S i j = ltb i j && S (pair i j)

@@ -59,7 +59,6 @@ fn small(
     let mut chains = [0u8; 256];
     let mut labels = [0u32; 16];
     let mut leaves = [0u32; 64];
-    let mut p = [0u64; 128];
     let used = draw(
         book,
         offsets,
@@ -71,7 +70,7 @@ fn small(
         &mut labels,
         &mut t,
     );
-    read_off(&t, task, &says, &leaves, &mut p, used, types, edges, pairs)
+    read_off(&t, task, &says, &leaves, &labels, used, types, edges, pairs)
 }
 
 // As many rows of links as t has, and of all else as many as any book asks for.
@@ -97,7 +96,6 @@ fn large(
     let mut chains = [0u8; 16384];
     let mut labels = [0u32; 512];
     let mut leaves = [0u32; 4096];
-    let mut p = [0u64; 4096];
     let used = draw(
         book,
         offsets,
@@ -109,7 +107,7 @@ fn large(
         &mut labels,
         t,
     );
-    read_off(t, task, &says, &leaves, &mut p, used, types, edges, pairs)
+    read_off(t, task, &says, &leaves, &labels, used, types, edges, pairs)
 }
 
 // At most 2,048 rows of links.

@@ -129,12 +129,12 @@ fn run_book(bytes: &[u8], n: usize) -> u8 {
     run_front(bytes, n)
 }
 
-// By rule 3 ours clashes or has what the record has; by the others it is the same.
+// By rule 2 ours clashes or has what the record has; by rule 1 it is the same.
 fn agrees(rule: u8, recorded: u8, ours: u8) -> bool {
     if ours == WRONG {
         return false;
     }
-    if rule == 3 {
+    if rule == 2 {
         if ours == CLASH {
             return true;
         }

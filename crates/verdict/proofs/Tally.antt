@@ -14,7 +14,7 @@ use Rattle.book.specs.declared.header.Counts.{Counts}
 use Rattle.rows.specs.Table.{base, leads, Can, Linked, none, then, Joined}
 use Rattle.rules.specs.Fact.{type, setOf}
 use Rattle.rules.specs.Lists.{used}
-use Rattle.rules.proofs.Tests.{and-both}
+use Rattle.rules.proofs.Tests.{false-true, and-both}
 use Rattle.rules.proofs.Facts.{edge-named}
 use Rattle.rules.proofs.Conclusions.{Own, own-edge, own-type}
 use Rattle.rules.proofs.Tally.{used-counted}
@@ -30,7 +30,7 @@ use Rattle.verdict.proofs.list.Views.{types-view, edges-view}
 -- the facts of a table are over the book's own numbers
 facts-own : (h : Counts) (t : List ℕ) (k : ℕ) → facts (sizeOf h) t k ≡ true → Own h k
 unfolding facts setOf type
-facts-own h t k = go (ltb k 16777216) refl
+facts-own h t k = go (ltb k 16777216) (ltb k 16908288) refl
   where
     edge-own : edgeIn (sizeOf h) t (k / 262144) (k / 512 % 512) (k % 512) ≡ true → Own h k
     edge-own e =
@@ -49,9 +49,11 @@ facts-own h t k = go (ltb k 16777216) refl
         let is : type ((k - 16777216) / 256) ((k - 16777216) % 256) ≡ k = omega (arith, l) in
         subst (Own h) is (own-type ((k - 16777216) / 256) ((k - 16777216) % 256) (ltb-true _ _ (i .0)) (ltb-true _ _ (c .0)))
 
-    go : (b : Bool) → ltb k 16777216 ≡ b → pick b (edgeIn (sizeOf h) t (k / 262144) (k / 512 % 512) (k % 512)) (typeIn (sizeOf h) t ((k - 16777216) / 256) ((k - 16777216) % 256)) ≡ true → Own h k
-    go true q e = edge-own e
-    go false q e = type-own (ltb-false k 16777216 q) e
+    go : (b c : Bool) → ltb k 16777216 ≡ b
+        → pick b (edgeIn (sizeOf h) t (k / 262144) (k / 512 % 512) (k % 512)) (pick c (typeIn (sizeOf h) t ((k - 16777216) / 256) ((k - 16777216) % 256)) false) ≡ true → Own h k
+    go true c q e = edge-own e
+    go false true q e = type-own (ltb-false k 16777216 q) e
+    go false false q e = false-true e
 
 module _ (h : Counts) (limits : Limits h) where
   -- how many different types and edges a table keeps
@@ -68,7 +70,7 @@ module _ (h : Counts) (limits : Limits h) where
   tally-is {t} k =
       k .tally
       ∙ (used-counted some limits (facts (sizeOf h) t) (facts-own h t)
-      ∙ rw (types-view h some refl t (limits .roles-top) (limits .individuals-top) (limits .classes-top), edges-view h some refl t (limits .roles-top) (limits .individuals-top) (limits .classes-top)) refl)
+      ∙ rw (types-view h some refl (limits .roles-top) (limits .individuals-top) (limits .classes-top) t (facts (sizeOf h) t) (λ k l. refl), edges-view h some refl (limits .roles-top) (limits .individuals-top) (limits .classes-top) t (facts (sizeOf h) t) (λ k l. refl)) refl)
 
   -- FROM THE START: the tables are blank, and the tally is 0
   pub tally-from-the-start : {t : List ℕ} → (base (sizeOf h) (sizeOf h .fields - 1) + h .classes) * 8 ≤ length t → Blank t → Kept (sizeOf h) t 0 × (0 ≡ kept t)

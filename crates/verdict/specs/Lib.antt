@@ -1,5 +1,4 @@
 -- Clash, same pairs, lists and end, of tables.
 pub mod Listing
 pub mod Verdict
-pub mod Pair
 pub mod Conclude

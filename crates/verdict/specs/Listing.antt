@@ -1,8 +1,10 @@
 -- What is listed of a table: its rows in ascending order (src/list.rt).
 use Prim.Native.Nat.{ℕ, _+_, _-_, _*_, _/_, _<_, _≤_}
 use mathlib.Core.Path.{_≡_}
+use mathlib.Core.Bool.{_&&_}
 use mathlib.Core.List.{List, _++_}
-use lib.ListN.{length, take, replicate}
+use lib.ListN.{length, getD, take, replicate}
+use lib.Dec.{ltb}
 use Rattle.rows.specs.Row.{has}
 use Rattle.rows.specs.declared.table.Size.{Size}
 use Rattle.rows.specs.Table.{leads}
@@ -13,9 +15,13 @@ use Rattle.rules.specs.Lists.{gather, only, entries2, entries3, filled}
 abbrev pub rowOf : ℕ → List ℕ → ℕ → ℕ → List Two
 rowOf first t k n = gather n λ b. only (has t k b) (two first b)
 
--- the members below n of the first n rows
-unfoldable pub pairsOf : List ℕ → ℕ → List Two
-pairsOf p n = gather n λ i. rowOf i p i n
+-- those of them behind that number
+abbrev pub behindOf : ℕ → List ℕ → ℕ → ℕ → List Two
+behindOf first t k n = gather n λ b. only (ltb first b && has t k b) (two first b)
+
+-- of each of n individuals those behind it in the row, among the rows G, of its label among the labels K
+unfoldable pub pairsOf : List ℕ → List ℕ → ℕ → List Two
+pairsOf K G n = gather n λ i. behindOf i G (getD K i 0) n
 
 -- the types of a table
 unfoldable pub typesOf : Size → List ℕ → List Two

@@ -4,8 +4,9 @@ ghost use Prim.Native.Nat.{_+_, _*_, _≤_, _<_};
 ghost use lib.ListN.{length, replicate};
 ghost use Rattle.rows.specs.Table.{Table};
 ghost use Rattle.rules.specs.Lists.{entries2, filled};
-ghost use Rattle.tables.specs.Tables.{Blank};
-ghost use Rattle.said.specs.Layout.{Placed, totalRows};
+ghost use Rattle.tables.specs.Tables.{Labelled, Grouped};
+ghost use Rattle.said.specs.Layout.{Placed, totalRows, part};
+ghost use Rattle.said.specs.declared.layout.Relation.the-variants.{Groups};
 ghost use Rattle.verdict.specs.Listing.{typesOf, allEdges};
 ghost use Rattle.verdict.specs.Conclude.{came, finishing, concluded};
 use super::end::End;
@@ -14,7 +15,6 @@ use super::list::count_pairs;
 use super::list::list_edges;
 use super::list::list_pairs;
 use super::list::list_types;
-use super::pair::same_pairs;
 use super::verdict::clash;
 use rows::table::Size;
 use said::layout::Layout;
@@ -35,8 +35,8 @@ pub fn clear_all(types: &mut [u32], edges: &mut [u32], pairs: &mut [u32])
 fn finish(
     t: &[u64],
     size: Size,
-    functional: &[u64],
-    p: &mut [u64],
+    groups: &[u64],
+    labels: &[u32],
     used: u32,
     count: u32,
     types: &mut [u32],
@@ -44,21 +44,20 @@ fn finish(
     pairs: &mut [u32],
 ) -> End
     requires { ⌜ Table size (now t) ⌝ }
-    requires { ⌜ Blank (now p) ⌝ }
-    requires { ⌜ (size .individuals * 8 ≤ length (now p)) × (8 ≤ length (now functional)) ⌝ }
+    requires { ⌜ Labelled (size .individuals) (now labels) ⌝ }
+    requires { ⌜ Grouped (size .individuals) (now labels) (now groups) ⌝ }
     requires { ⌜ (count ≡ length (typesOf size (now t))) × (used ≡ count + length (allEdges size (now t))) ⌝ }
     requires { ⌜ now types ≡ filled (entries2 (typesOf size (now t))) (length (now types)) ⌝ }
     requires { ⌜ 3 * length (allEdges size (now t)) ≤ length (now edges) ⌝ }
-    ensures { λ r. ⌜ came r (now (types .exit)) (now (edges .exit)) (now (pairs .exit)) ≡ finishing size (now (t .entry)) (now (functional .entry)) (now (types .entry)) (now (edges .entry)) (now (pairs .entry)) ⌝ }
+    ensures { λ r. ⌜ came r (now (types .exit)) (now (edges .exit)) (now (pairs .exit)) ≡ finishing size (now (t .entry)) (now (labels .entry)) (now (types .entry)) (now (edges .entry)) (now (pairs .entry)) ⌝ }
 {
-    same_pairs(p, t, size, functional);
-    let same = count_pairs(p, size.individuals);
+    let same = count_pairs(groups, labels, size.individuals);
     if pairs.len() < 2 * same {
         clear_all(types, edges, pairs);
         return End::Refused(11);
     }
     list_edges(edges, t, size);
-    list_pairs(pairs, p, size.individuals);
+    list_pairs(pairs, groups, labels, size.individuals);
     End::Finished(count, used - count, same as u32)
 }
 
@@ -67,18 +66,19 @@ pub fn conclude(
     layout: Layout,
     says: &[u64],
     leaves: &[u32],
-    p: &mut [u64],
+    labels: &[u32],
     used: u32,
     types: &mut [u32],
     edges: &mut [u32],
     pairs: &mut [u32],
 ) -> End
     requires { ⌜ Table (layout .size) (now t) ⌝ }
-    requires { ⌜ Blank (now p) ⌝ }
-    requires { ⌜ Placed layout × (totalRows layout * 8 ≤ length (now says)) × (layout .concepts ≤ length (now leaves)) × (layout .size .individuals * 8 ≤ length (now p)) ⌝ }
+    requires { ⌜ Labelled (layout .size .individuals) (now labels) ⌝ }
+    requires { ⌜ Grouped (layout .size .individuals) (now labels) (part layout Groups (now says)) ⌝ }
+    requires { ⌜ Placed layout × (totalRows layout * 8 ≤ length (now says)) × (layout .concepts ≤ length (now leaves)) ⌝ }
     requires { ⌜ used ≡ length (typesOf (layout .size) (now t)) + length (allEdges (layout .size) (now t)) ⌝ }
     requires { ⌜ (2 * length (typesOf (layout .size) (now t)) ≤ length (now types)) × (3 * length (allEdges (layout .size) (now t)) ≤ length (now edges)) ⌝ }
-    ensures { λ r. ⌜ came r (now (types .exit)) (now (edges .exit)) (now (pairs .exit)) ≡ concluded layout (now (t .entry)) (now (says .entry)) (now (leaves .entry)) (now (types .entry)) (now (edges .entry)) (now (pairs .entry)) ⌝ }
+    ensures { λ r. ⌜ came r (now (types .exit)) (now (edges .exit)) (now (pairs .exit)) ≡ concluded layout (now (t .entry)) (now (says .entry)) (now (leaves .entry)) (now (labels .entry)) (now (types .entry)) (now (edges .entry)) (now (pairs .entry)) ⌝ }
 {
     let size = layout.size;
     let count = list_types(types, t, size) as u32;
@@ -86,6 +86,6 @@ pub fn conclude(
         clear_all(types, edges, pairs);
         return End::Clash(count, used - count);
     }
-    let functional = part_of(says, layout, Relation::Functional);
-    finish(t, size, functional, p, used, count, types, edges, pairs)
+    let groups = part_of(says, layout, Relation::Groups);
+    finish(t, size, groups, labels, used, count, types, edges, pairs)
 }

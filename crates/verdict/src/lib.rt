@@ -2,5 +2,4 @@
 pub mod conclude;
 pub mod end;
 pub mod list;
-pub mod pair;
 pub mod verdict;

@@ -4,8 +4,9 @@ ghost use mathlib.Core.List.{[], _∷_, _++_};
 ghost use Prim.Native.Nat.{_+_, _-_, _*_, _≤_, _<_};
 ghost use lib.ListN.{length, take, replicate};
 ghost use Rattle.rows.specs.Table.{Table};
+ghost use Rattle.tables.specs.Tables.{Labelled};
 ghost use Rattle.rules.specs.Lists.{entries2, entries3, filled};
-ghost use Rattle.verdict.specs.Listing.{rowOf, pairsOf, typesOf, edgesFrom, edgesOf, allEdges, Written};
+ghost use Rattle.verdict.specs.Listing.{rowOf, behindOf, pairsOf, typesOf, edgesFrom, edgesOf, allEdges, Written};
 use rows::row::next;
 use rows::table::Size;
 use rows::table::row_of;
@@ -23,13 +24,13 @@ pub fn clear(list: &mut [u32], from: usize)
     }
 }
 
-// How many members below n row k has.
-fn count_row(t: &[u64], k: usize, n: usize, count: usize) -> usize
-    requires { ⌜ (k * 512 + n ≤ length (now t) * 64) × (n ≤ 512) × (count ≤ 262144) ⌝ }
-    ensures { λ r. ⌜ r ≡ count + length (rowOf 0 (now (t .entry)) k n) ⌝ }
+// How many members below n, behind `first`, row k has.
+fn count_behind(t: &[u64], k: usize, first: usize, n: usize, count: usize) -> usize
+    requires { ⌜ (k * 512 + n ≤ length (now t) * 64) × (n ≤ 512) × (first < 512) × (count ≤ 262144) ⌝ }
+    ensures { λ r. ⌜ r ≡ count + length (behindOf first (now (t .entry)) k n) ⌝ }
 {
     let mut i = count;
-    let mut b = next(t, k, 0, n);
+    let mut b = next(t, k, first + 1, n);
     while b < n {
         i += 1;
         b = next(t, k, b + 1, n);
@@ -37,14 +38,14 @@ fn count_row(t: &[u64], k: usize, n: usize, count: usize) -> usize
     i
 }
 
-// How many members below n the first n rows have.
-pub fn count_pairs(p: &[u64], n: usize) -> usize
-    requires { ⌜ (n * 8 ≤ length (now p)) × (n ≤ 512) ⌝ }
-    ensures { λ r. ⌜ r ≡ length (pairsOf (now (p .entry)) n) ⌝ }
+// How many pairs of n individuals have one label, by the rows of the labels.
+pub fn count_pairs(groups: &[u64], labels: &[u32], n: usize) -> usize
+    requires { ⌜ Labelled n (now labels) × (n * 8 ≤ length (now groups)) × (n ≤ 512) ⌝ }
+    ensures { λ r. ⌜ r ≡ length (pairsOf (now (labels .entry)) (now (groups .entry)) n) ⌝ }
 {
     let mut count = 0;
     for i in 0..n {
-        count = count_row(p, i, n, count);
+        count = count_behind(groups, labels[i] as usize, i, n, count);
     }
     count
 }
@@ -157,14 +158,31 @@ pub fn list_edges(list: &mut [u32], t: &[u64], size: Size)
     clear(list, at);
 }
 
-pub fn list_pairs(list: &mut [u32], p: &[u64], n: usize)
-    requires { ⌜ (n * 8 ≤ length (now p)) × (n ≤ 512) ⌝ }
-    requires { ⌜ 2 * length (pairsOf (now p) n) ≤ length (now list) ⌝ }
-    ensures { λ _. ⌜ now (list .exit) ≡ filled (entries2 (pairsOf (now (p .entry)) n)) (length (now (list .entry))) ⌝ }
+// A row of two entries for each member below n, behind `first`, of row k, with `first` in front.
+fn list_behind(list: &mut [u32], at: usize, first: usize, t: &[u64], k: usize, n: usize) -> usize
+    requires { ⌜ (k * 512 + n ≤ length (now t) * 64) × (n ≤ 512) × (first < 512) ⌝ }
+    requires { ⌜ at + 2 * length (behindOf first (now t) k n) ≤ length (now list) ⌝ }
+    ensures { λ r. ⌜ Written (now (list .entry)) at (entries2 (behindOf first (now (t .entry)) k n)) (now (list .exit)) r ⌝ }
+{
+    let mut i = at;
+    let mut b = next(t, k, first + 1, n);
+    while b < n {
+        put_two(list, i, first, b);
+        i += 2;
+        b = next(t, k, b + 1, n);
+    }
+    i
+}
+
+// Lists the pairs of n individuals that have one label.
+pub fn list_pairs(list: &mut [u32], groups: &[u64], labels: &[u32], n: usize)
+    requires { ⌜ Labelled n (now labels) × (n * 8 ≤ length (now groups)) × (n ≤ 512) ⌝ }
+    requires { ⌜ 2 * length (pairsOf (now labels) (now groups) n) ≤ length (now list) ⌝ }
+    ensures { λ _. ⌜ now (list .exit) ≡ filled (entries2 (pairsOf (now (labels .entry)) (now (groups .entry)) n)) (length (now (list .entry))) ⌝ }
 {
     let mut at = 0;
     for i in 0..n {
-        at = list_row(list, at, i, p, i, n);
+        at = list_behind(list, at, i, groups, labels[i] as usize, n);
     }
     clear(list, at);
 }

@@ -2,13 +2,14 @@
 use Prim.Native.Nat.{ℕ, _+_, _*_, _<_, _≤_, min}
 use native.Mathlib.Omega.{arith}
 use mathlib.Core.Path.{_≡_, refl}
-use mathlib.Core.Bool.{Bool, true}
+use mathlib.Core.Bool.{Bool, true, _&&_}
 use mathlib.Core.List.{List, [], _∷_}
-use lib.ListN.{length, length-append}
+use lib.ListN.{length, getD, length-append}
+use lib.Dec.{ltb}
 use Rattle.rows.specs.Row.{has, Scan}
 use Rattle.rules.specs.Fact.{two}
 use Rattle.rules.specs.Lists.{gather, only}
-use Rattle.verdict.specs.Listing.{rowOf, pairsOf}
+use Rattle.verdict.specs.Listing.{behindOf, pairsOf}
 use Rattle.verdict.proofs.list.Gathers.{gather-more, gather-few, gather-many, only-true, only-false, scan-start, scan-more}
 
 -- i is count and the members below b and n, and b is a member if it is below n
@@ -37,26 +38,26 @@ module _ {m : ℕ → Bool} {n count : ℕ} where
         let e : min b n ≡ n = omega arith in
         omega (arith, rw e at (c .tally), gather-many n m (λ k. k) x)
 
--- count is how many pairs the first i rows have, at most 512 each
-pub record CountedPairs (p : List ℕ) (n i count : ℕ) : Type 0 where
+-- count is how many pairs the first i individuals have with those behind them, at most 512 each
+pub record CountedPairs (K G : List ℕ) (n i count : ℕ) : Type 0 where
   pub below : i ≤ n
-  pub tally : count ≡ length (gather i (λ x. rowOf x p x n))
+  pub tally : count ≡ length (gather i (λ x. behindOf x G (getD K x 0) n))
   pub few : count ≤ i * 512
 
 -- no row yet, one more, and all
-pub pairs-none : (p : List ℕ) (n : ℕ) → CountedPairs p n 0 0
-pairs-none p n = record { below = omega arith; tally = refl; few = omega arith }
+pub pairs-none : (K G : List ℕ) (n : ℕ) → CountedPairs K G n 0 0
+pairs-none K G n = record { below = omega arith; tally = refl; few = omega arith }
 
-module _ {p : List ℕ} {n i count : ℕ} (c : CountedPairs p n i count) where
-  pub pairs-next : i < n → n ≤ 512 → {r : ℕ} → r ≡ count + length (rowOf 0 p i n) → CountedPairs p n (i + 1) r
+module _ {K G : List ℕ} {n i count : ℕ} (c : CountedPairs K G n i count) where
+  pub pairs-next : i < n → n ≤ 512 → {r : ℕ} → r ≡ count + length (behindOf i G (getD K i 0) n) → CountedPairs K G n (i + 1) r
   pairs-next l h {r} e = record {
     below = omega arith;
     tally =
-        rw (gather-more i (λ x. rowOf x p x n))
-        (omega (arith, c .tally, length-append (gather i (λ x. rowOf x p x n)) (rowOf i p i n), gather-many n (has p i) (two 0) (two i)));
-    few = omega (arith, c .few, gather-few n (has p i) (two 0));
+        rw (gather-more i (λ x. behindOf x G (getD K x 0) n))
+        (omega (arith, c .tally, length-append (gather i (λ x. behindOf x G (getD K x 0) n)) (behindOf i G (getD K i 0) n)));
+    few = omega (arith, c .few, gather-few n (λ b. ltb i b && has G (getD K i 0) b) (two i));
   }
 
-  pub pairs-all : n ≤ i → count ≡ length (pairsOf p n)
+  pub pairs-all : n ≤ i → count ≡ length (pairsOf K G n)
   unfolding pairsOf
   pairs-all l = let e : i ≡ n = omega (arith, c .below) in rw e at (c .tally)

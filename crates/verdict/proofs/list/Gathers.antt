@@ -1,14 +1,17 @@
 -- What is gathered: one number more, gaps, scans, and how much it is.
 use Prim.Native.Nat.{ℕ, zero, suc, _+_, _<_, _≤_, min}
-use native.Mathlib.Decide.{ℕ-discrete}
+use native.Mathlib.Decide.{ℕ-discrete, decLt}
 use native.Mathlib.Numerals.{add-one}
 use native.Mathlib.Omega.{arith}
-use mathlib.Core.Path.{_≡_, refl, sym, _∙_}
-use mathlib.Core.Bool.{Bool, true, false}
+use mathlib.Core.Path.{_≡_, refl, ap, sym, _∙_}
+use mathlib.Core.Bool.{Bool, true, false, _&&_}
 use mathlib.Core.List.{List, [], _∷_, _++_, append-nil}
 use lib.ListN.{length, length-append}
+use lib.Dec.{ltb}
+use borrow.Author.Tests.{lt-ltb, le-ltb}
 use Rattle.rows.specs.Row.{Scan}
 use Rattle.rules.specs.Lists.{gather, only}
+use Rattle.rules.proofs.Tests.{and-intro}
 use Rattle.rules.proofs.Sums.{sum-agree, length-gather, length-only, length-only-le}
 
 module _ {A : Type 0} where
@@ -42,11 +45,30 @@ module _ {A : Type 0} where
   gather-few zero m x = omega arith
   gather-few (suc n) m x = omega (arith, length-append (gather n (λ k. only (m k) (x k))) (only (m n) (x n)), length-only-le (m n) (x n), gather-few n m x)
 
+and-false : (a : Bool) → (a && false) ≡ false
+and-false true = refl
+and-false false = refl
+
 -- and as many of one thing as of another
 pub gather-many : {A B : Type 0} (n : ℕ) (m : ℕ → Bool) (x : ℕ → A) (y : ℕ → B) → length (gather n (λ k. only (m k) (x k))) ≡ length (gather n (λ k. only (m k) (y k)))
 gather-many n m x y =
     length-gather n (λ k. only (m k) (x k)) ∙ sum-agree n _ (λ k. length (only (m k) (y k))) (λ k l. length-only (m k) (x k) ∙ sym (length-only (m k) (y k)))
     ∙ sym (length-gather n (λ k. only (m k) (y k)))
+
+-- a scan from behind a number on is one of the members behind it
+pub scan-behind : {m : ℕ → Bool} (first : ℕ) {n r : ℕ} → Scan m (first + 1) n r → Scan (λ b. ltb first b && m b) 0 n r
+scan-behind {m} first {n} {r} s = record { ge = omega arith; gap = λ i a l. go i l (decLt first i); hit = λ l. and-intro (ltb first r) (m r) (lt-ltb first r (omega (arith, s .ge))) (s .hit l) }
+  where
+    go : (i : ℕ) → i < r → Dec (first < i) → (ltb first i && m i) ≡ false
+    go i l (yes q) = rw (s .gap i (omega arith) l) (and-false (ltb first i))
+    go i l (no q) = ap (λ (b : Bool). b && m i) (le-ltb first i (omega arith))
+
+pub scan-on : {m : ℕ → Bool} (first : ℕ) {b n r : ℕ} → first < b → Scan m (b + 1) n r → Scan (λ b. ltb first b && m b) (b + 1) n r
+scan-on {m} first {b} {n} {r} h s = record {
+  ge = s .ge;
+  gap = λ i a l. ap (λ (x : Bool). ltb first i && x) (s .gap i a l) ∙ and-false (ltb first i);
+  hit = λ l. and-intro (ltb first r) (m r) (lt-ltb first r (omega (arith, s .ge))) (s .hit l);
+}
 
 -- ---- a scan from member to member of m, where f gives nothing for a number that is none
 

@@ -10,8 +10,7 @@ use lib.ListN.{getD, replicate, getD-replicate, length-replicate, List·getD-eq-
 use Rattle.rows.specs.Row.{at, has, Gathered, Composed}
 use Rattle.rows.proofs.row.Bits.{bit-zero}
 use Rattle.rules.specs.Rule.{any}
-use Rattle.rules.proofs.Tests.{false-true, and-both, and-intro, any-some, some-any}
-use Rattle.verdict.proofs.pair.Passing.{both-ways}
+use Rattle.rules.proofs.Tests.{false-true, both-ways, and-both, and-intro, any-some, some-any}
 
 -- every word is 0, also beyond the end
 zeros : (n i : ℕ) → getD {A = ℕ} (replicate n 0) i 0 ≡ 0

@@ -12,10 +12,9 @@ use Rattle.rows.specs.Row.{has, Gathered, Composed}
 use Rattle.rows.specs.declared.table.Size.{Size}
 use Rattle.rows.specs.Table.{leads}
 use Rattle.rules.specs.Rule.{any}
-use Rattle.rules.proofs.Tests.{and-both, and-intro, any-some, some-any}
+use Rattle.rules.proofs.Tests.{both-ways, and-both, and-intro, any-some, some-any}
 use Rattle.tables.specs.Leaf.{kindIn}
 use Rattle.verdict.specs.Verdict.{meeting, markerFor, markerRow, RowsWith}
-use Rattle.verdict.proofs.pair.Passing.{both-ways}
 use Rattle.verdict.proofs.verdict.Blank.{row-composed}
 use Rattle.verdict.proofs.verdict.Searches.{any-more}
 

@@ -13,7 +13,9 @@ cast-if1 : tie.Need-cast-if1
 cast-if1 c = search needs
 
 returns : tie.Need-returns
-returns c = λ B t. edges-none t (c .before .before .before .before .before .args .f) (c .before .before .before .before .before .args .g) (c .before .before .role-in .ensures) (c .if1 .taken)
+returns c =
+    let a = c .before .before .before .before .before .args in
+    λ B t. edges-none t (a .f) (a .g) (a .x) (a .y) (c .before .before .role-in .ensures) (c .if1 .taken)
 
 leads-from-requires : tie.Need-leads-from-requires
 leads-from-requires c κs = search needs
@@ -21,8 +23,8 @@ leads-from-requires c κs = search needs
 leads-from-requires-2 : tie.Need-leads-from-requires-2
 leads-from-requires-2 c κs = search needs
 
-told-same-requires : tie.Need-told-same-requires
-told-same-requires c κs = search needs
+one-class-requires : tie.Need-one-class-requires
+one-class-requires c κs = search needs
 
 leads-to-requires : tie.Need-leads-to-requires
 leads-to-requires c κs = search needs
@@ -30,8 +32,8 @@ leads-to-requires c κs = search needs
 leads-to-requires-2 : tie.Need-leads-to-requires-2
 leads-to-requires-2 c κs = search needs
 
-told-same-requires-2 : tie.Need-told-same-requires-2
-told-same-requires-2 c κs = search needs
+one-class-requires-2 : tie.Need-one-class-requires-2
+one-class-requires-2 c κs = search needs
 
 is-edge-requires : tie.Need-is-edge-requires
 is-edge-requires c κs = search needs
@@ -40,7 +42,12 @@ is-edge-requires-2 : tie.Need-is-edge-requires-2
 is-edge-requires-2 c κs = search needs
 
 returns-2 : tie.Need-returns-2
-returns-2 c = λ B t. edges-share t (c .before .before .before .before .before .before .before .before .before .before .before .before .before .pre .0) _ _ (c .before .before .before .before .before .before .before .before .before .before .role-in .ensures) (c .before .before .before .before .before .before .before .before .if1 .left) (c .before .before .before .before .before .before .before .leads-from .ensures .0) (c .before .before .before .before .before .before .leads-from2 .ensures .0) (c .before .before .before .before .before .told-same .ensures) (c .before .before .before .before .leads-to .ensures .0) (c .before .before .before .leads-to2 .ensures .0) (c .before .before .told-same2 .ensures) (c .before .is-edge .ensures) (c .is-edge2 .ensures)
+returns-2 c =
+    let k = c .before .before .before .before .before in
+    let j = k .before .before .before in
+    λ B t. edges-share t (j .before .before .before .before .before .pre .0) _ _ _ _ (j .before .before .role-in .ensures) (j .if1 .left)
+    (k .before .before .leads-from .ensures .0) (k .before .leads-from2 .ensures .0) (k .one-class .ensures)
+    (c .before .before .before .before .leads-to .ensures .0) (c .before .before .before .leads-to2 .ensures .0) (c .before .before .one-class2 .ensures) (c .before .is-edge .ensures) (c .is-edge2 .ensures)
 
 pub share-edges-spec : {M : Type 1} → statement M
 share-edges-spec =
@@ -52,10 +59,10 @@ share-edges-spec =
     returns
     leads-from-requires
     leads-from-requires-2
-    told-same-requires
+    one-class-requires
     leads-to-requires
     leads-to-requires-2
-    told-same-requires-2
+    one-class-requires-2
     is-edge-requires
     is-edge-requires-2
     returns-2)

@@ -24,11 +24,14 @@ type-of-requires c κs = search needs
 type-of-requires-2 : tie.Need-type-of-requires-2
 type-of-requires-2 c κs = search needs
 
-told-same-requires : tie.Need-told-same-requires
-told-same-requires c κs = search needs
+one-class-requires : tie.Need-one-class-requires
+one-class-requires c κs = search needs
 
 returns : tie.Need-returns
-returns c = λ B t. types-share t _ _ (c .before .before .before .before .before .before .bearer .ensures .0) (c .before .before .before .before .before .bearer2 .ensures .0) (c .before .before .before .before .class-in .ensures .0) (c .before .before .type-of .ensures) (c .before .type-of2 .ensures) (c .told-same .ensures)
+returns c =
+    let k = c .before .before .before .before in
+    λ B t. types-share t _ _ _ (k .before .before .bearer .ensures .0) (k .before .bearer2 .ensures .0) (k .class-in .ensures .0)
+    (c .before .before .type-of .ensures) (c .before .type-of2 .ensures) (c .one-class .ensures)
 
 pub share-types-spec : {M : Type 1} → statement M
 share-types-spec =
@@ -41,5 +44,5 @@ share-types-spec =
     cast-result
     type-of-requires
     type-of-requires-2
-    told-same-requires
+    one-class-requires
     returns)

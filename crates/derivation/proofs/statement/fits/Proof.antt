@@ -10,15 +10,12 @@ use Rattle.derivation.proofs.Fitting.{path-low}
 cast-n : tie.Need-cast-n
 cast-n c = search needs
 
-cast-m : tie.Need-cast-m
-cast-m c = search needs
-
 enum-known-statement : tie.Need-enum-known-statement
 enum-known-statement c = search needs
 
 bring-fits-requires : tie.Need-bring-fits-requires
 bring-fits-requires c κs =
-    let s = c .before .before .before .before .before .before .before .before in
+    let s = c .before .before .before .before .before .before .before in
     let w = rw (c .before .statement .given .1) at (s .pre .1) in
     (s .pre .0, (w .0, w .1))
 
@@ -27,13 +24,13 @@ enum-known-statement-2 c = search needs
 
 bring-fits-requires-2 : tie.Need-bring-fits-requires-2
 bring-fits-requires-2 c κs =
-    let s = c .before .before .before .before .before .before .before .before in
+    let s = c .before .before .before .before .before .before .before in
     let w = rw (c .before .statement2 .given .1) at (s .pre .1) in
     (s .pre .0, (w .0, w .1))
 
 bring-fits-requires-3 : tie.Need-bring-fits-requires-3
 bring-fits-requires-3 c κs =
-    let s = c .before .before .before .before .before .before .before .before .before in
+    let s = c .before .before .before .before .before .before .before .before in
     let w = rw (c .before .before .statement2 .given .1) at (s .pre .1) in
     (s .pre .0, (w .1, w .0))
 
@@ -45,13 +42,13 @@ enum-known-statement-3 c = search needs
 
 swap-fits-requires : tie.Need-swap-fits-requires
 swap-fits-requires c κs =
-    let s = c .before .before .before .before .before .before .before .before in
+    let s = c .before .before .before .before .before .before .before in
     let w = rw (c .before .statement3 .given .1) at (s .pre .1) in
     (omega (arith, w .0, s .pre .0 .limits .roles-top), omega (arith, w .1, s .pre .0 .limits .roles-top))
 
 swap-fits-requires-2 : tie.Need-swap-fits-requires-2
 swap-fits-requires-2 c κs =
-    let s = c .before .before .before .before .before .before .before .before .before in
+    let s = c .before .before .before .before .before .before .before .before in
     let w = rw (c .before .before .statement3 .given .1) at (s .pre .1) in
     (omega (arith, w .1, s .pre .0 .limits .roles-top), omega (arith, w .0, s .pre .0 .limits .roles-top))
 
@@ -60,7 +57,7 @@ enum-known-statement-4 c = search needs
 
 path-fits-requires : tie.Need-path-fits-requires
 path-fits-requires c κs =
-    let s = c .before .before .before .before .before .before .before .before in
+    let s = c .before .before .before .before .before .before .before in
     let w = rw (c .before .statement4 .given .1) at (s .pre .1) in
     (path-low (s .args .counts) (s .pre .0 .limits .roles-top) (c .before .statement4 .given .0 .0) (w .0), omega (arith, w .1, s .pre .0 .limits .roles-top))
 
@@ -69,7 +66,7 @@ enum-known-statement-5 c = search needs
 
 two-fits-requires : tie.Need-two-fits-requires
 two-fits-requires c κs =
-    let s = c .before .before .before .before .before .before .before .before in
+    let s = c .before .before .before .before .before .before .before in
     let w = rw (c .before .statement5 .given .1) at (s .pre .1) in
     (omega (arith, w, s .pre .0 .limits .roles-top), omega (arith, w, s .pre .0 .limits .roles-top), omega (arith, w, s .pre .0 .limits .roles-top))
 
@@ -78,16 +75,16 @@ enum-known-statement-6 c = search needs
 
 swap-fits-requires-3 : tie.Need-swap-fits-requires-3
 swap-fits-requires-3 c κs =
-    let s = c .before .before .before .before .before .before .before .before in
+    let s = c .before .before .before .before .before .before .before in
     let w = rw (c .before .statement6 .given .1) at (s .pre .1) in
     (omega (arith, w, s .pre .0 .limits .roles-top), omega (arith, w, s .pre .0 .limits .roles-top))
 
 enum-known-statement-7 : tie.Need-enum-known-statement-7
 enum-known-statement-7 c = search needs
 
-merge-fits-requires : tie.Need-merge-fits-requires
-merge-fits-requires c κs =
-    let s = c .before .before .before .before .before .before .before .before in
+join-fits-requires : tie.Need-join-fits-requires
+join-fits-requires c κs =
+    let s = c .before .before .before .before .before .before .before in
     let w = rw (c .before .statement7 .given .1) at (s .pre .1) in
     omega (arith, w, s .pre .0 .limits .roles-top)
 
@@ -97,9 +94,9 @@ enum-known-statement-8 c = search needs
 flip-requires : tie.Need-flip-requires
 flip-requires c κs = search needs
 
-merge-fits-requires-2 : tie.Need-merge-fits-requires-2
-merge-fits-requires-2 c κs =
-    let s = c .before .before .before .before .before .before .before .before .before in
+join-fits-requires-2 : tie.Need-join-fits-requires-2
+join-fits-requires-2 c κs =
+    let s = c .before .before .before .before .before .before .before .before in
     let w = rw (c .before .before .statement8 .given .1) at (s .pre .1) in
     rw (c .flip .ensures, flipped-id (c .before .before .statement8 .given .0 .0)) (omega (arith, w, s .pre .0 .limits .roles-top))
 
@@ -108,7 +105,7 @@ enum-known-statement-9 c = search needs
 
 domain-fits-requires : tie.Need-domain-fits-requires
 domain-fits-requires c κs =
-    let s = c .before .before .before .before .before .before .before .before in
+    let s = c .before .before .before .before .before .before .before in
     let w = rw (c .before .statement9 .given .1) at (s .pre .1) in
     (s .pre .0, (w .1, omega (arith, w .0, s .pre .0 .limits .roles-top)))
 
@@ -117,7 +114,7 @@ enum-known-statement-10 c = search needs
 
 range-fits-requires : tie.Need-range-fits-requires
 range-fits-requires c κs =
-    let s = c .before .before .before .before .before .before .before .before in
+    let s = c .before .before .before .before .before .before .before in
     let w = rw (c .before .statement10 .given .1) at (s .pre .1) in
     (s .pre .0, (w .1, omega (arith, w .0, s .pre .0 .limits .roles-top)))
 
@@ -129,7 +126,7 @@ enum-known-statement-11 c = search needs
 
 told-fits-requires : tie.Need-told-fits-requires
 told-fits-requires c κs =
-    let s = c .before .before .before .before .before .before .before .before in
+    let s = c .before .before .before .before .before .before .before in
     let w = rw (c .before .statement11 .given .1) at (s .pre .1) in
     (s .pre .0, (w .0, omega (arith, w .1, s .pre .0 .limits .individuals-top)))
 
@@ -138,7 +135,7 @@ enum-known-statement-12 c = search needs
 
 edge-of-requires : tie.Need-edge-of-requires
 edge-of-requires c κs =
-    let s = c .before .before .before .before .before .before .before .before in
+    let s = c .before .before .before .before .before .before .before in
     let w = rw (c .before .statement12 .given .1) at (s .pre .1) in
     (omega (arith, w .0, s .pre .0 .limits .roles-top), omega (arith, w .1, s .pre .0 .limits .individuals-top), omega (arith, w .2, s .pre .0 .limits .individuals-top))
 
@@ -172,11 +169,11 @@ returns-7 c = λ B t. rw (c .before .before .statement6 .given .1, t .counts) (c
 
 returns-8 : tie.Need-returns-8
 unfolding fits
-returns-8 c = λ B t. rw (c .before .before .statement7 .given .1, t .counts) (c .merge-fits .ensures)
+returns-8 c = λ B t. rw (c .before .before .statement7 .given .1, t .counts) (c .join-fits .ensures)
 
 returns-9 : tie.Need-returns-9
 unfolding fits
-returns-9 c = λ B t. rw (c .before .before .before .statement8 .given .1, t .counts, ← (c .before .flip .ensures)) (c .merge-fits2 .ensures)
+returns-9 c = λ B t. rw (c .before .before .before .statement8 .given .1, t .counts, ← (c .before .flip .ensures)) (c .join-fits2 .ensures)
 
 returns-10 : tie.Need-returns-10
 unfolding fits
@@ -203,7 +200,6 @@ fits-spec =
     tie.close
     (tie.spec
     cast-n
-    cast-m
     enum-known-statement
     bring-fits-requires
     enum-known-statement-2
@@ -220,10 +216,10 @@ fits-spec =
     enum-known-statement-6
     swap-fits-requires-3
     enum-known-statement-7
-    merge-fits-requires
+    join-fits-requires
     enum-known-statement-8
     flip-requires
-    merge-fits-requires-2
+    join-fits-requires-2
     enum-known-statement-9
     domain-fits-requires
     enum-known-statement-10

@@ -8,6 +8,9 @@ use Rattle.listing.proofs.run.entries_due.Lts as lts
 add-n : tie.Need-add-n
 add-n c = search needs
 
+add-n-2 : tie.Need-add-n-2
+add-n-2 c = search needs
+
 cast-n : tie.Need-cast-n
 cast-n c = search needs
 
@@ -31,6 +34,7 @@ entries-due-spec =
     tie.close
     (tie.spec
     add-n
+    add-n-2
     cast-n
     add-result
     mul-result

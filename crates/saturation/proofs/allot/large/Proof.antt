@@ -1,7 +1,6 @@
 use native.Mathlib.Omega.{arith}
 use Prim.Native.Nat.{ℕ, _*_, _≤_}
 use mathlib.Core.Path.{sym, subst}
-use Rattle.tables.proofs.Blank.{blank}
 use Rattle.tables.proofs.Open.{open-limits}
 use Rattle.said.specs.Layout.{layoutOf, totalRows}
 use Rattle.heed.specs.Names.{readerOf}
@@ -11,66 +10,63 @@ use Rattle.saturation.proofs.run.Closing.{heard-inside}
 use borrow.Author.Needs.{needs}
 use Rattle.saturation.proofs.allot.large.Statement.{statement}
 use Rattle.saturation.proofs.allot.large.Tie as tie
-use Rattle.saturation.proofs.allot.large.Reads as reads
-use Rattle.saturation.proofs.allot.large.Lts as lts
-use Rattle.saturation.proofs.run.draw.Reads as draw-reads
-use Rattle.saturation.proofs.run.read_off.Reads as read-off-reads
 
--- src/allot.rt:99:9
 slice-aggregate-draw : tie.Need-slice-aggregate-draw
 slice-aggregate-draw c = search needs
 
--- src/allot.rt:100:9
 slice-aggregate-draw-2 : tie.Need-slice-aggregate-draw-2
 slice-aggregate-draw-2 c = search needs
 
--- src/allot.rt:101:9
 slice-aggregate-draw-3 : tie.Need-slice-aggregate-draw-3
 slice-aggregate-draw-3 c = search needs
 
--- src/allot.rt:102:9
 slice-aggregate-draw-4 : tie.Need-slice-aggregate-draw-4
 slice-aggregate-draw-4 c = search needs
 
--- src/allot.rt:95:9
 draw-requires : tie.Need-draw-requires
-draw-requires c κs = let p = c .before .before .before .before .before .before .before .before .before .before .before .before .pre in let r = readerOf (c .before .before .before .before .before .before .before .before .before .before .before .before .args .task .names) (c .before .before .before .before .before .before .before .before .before .before .before .before .args .table .now) in let l = open-limits (p .0) in (p .0, (p .1 .0, (p .1 .1 .0, (large-fresh l (p .1 .1 .1 .1 .0) (p .1 .1 .1 .1 .1), within 4096 _ (l .concepts-top)))))
+draw-requires c κs =
+    let p = c .before .before .before .before .before .before .before .before .before .before .before .before .pre in
+    let l = open-limits (p .0) in
+    (p .0, (p .1 .0, (p .1 .1 .0, (large-fresh l (p .1 .1 .1 .1 .0) (p .1 .1 .1 .1 .1), within 4096 _ (l .concepts-top)))))
 
--- src/allot.rt:105:23
 slice-aggregate-read-off : tie.Need-slice-aggregate-read-off
 slice-aggregate-read-off c = search needs
 
--- src/allot.rt:105:30
 slice-aggregate-read-off-2 : tie.Need-slice-aggregate-read-off-2
 slice-aggregate-read-off-2 c = search needs
 
--- src/allot.rt:105:39
 slice-aggregate-read-off-3 : tie.Need-slice-aggregate-read-off-3
 slice-aggregate-read-off-3 c = search needs
 
--- src/allot.rt:105:5
 read-off-requires : tie.Need-read-off-requires
-read-off-requires c κs = let p = c .before .before .before .before .before .before .before .before .before .before .before .before .before .before .before .before .before .before .before .before .before .before .before .before .before .before .pre in let r = readerOf (c .before .before .before .before .before .before .before .before .before .before .before .before .before .before .before .before .before .before .before .before .before .before .before .before .before .before .args .task .names) (c .before .before .before .before .before .before .before .before .before .before .before .before .before .before .before .before .before .before .before .before .before .before .before .before .before .before .args .table .now) in let h = c .before .before .before .before .before .before .before .before .before .before .before .before .before .before .before .before .before .before .before .before .before .before .before .before .before .before .args .task .counts in let l = open-limits (p .0) in ((heardBook r (c .before .before .before .before .before .before .before .before .before .before .before .before .before .before .before .before .before .before .before .before .before .before .before .before .before .before .args .book .now), heard-inside r (p .0), p .0 .counts, c .before .before .before .before .before .before .before .before .before .before .before .before .before .draw .ensures), (blank 4096, ((subst (λ (n : ℕ). totalRows (layoutOf h) * 8 ≤ n) (sym (c .before .before .before .before .before .before .before .before .before .before .before .says2 .given)) (large-fresh l (p .1 .1 .1 .1 .0) (p .1 .1 .1 .1 .1) .room .rows), subst (λ (n : ℕ). h .concepts ≤ n) (sym (c .before .before .before .before .before .before .before .before .before .before .before .before .leaves2 .given)) (within 4096 _ (l .concepts-top)), within 4096 _ (omega (arith, l .individuals-top))), p .1 .1 .1 .0)))
+read-off-requires c κs =
+    let s = c .before .before .before .before .before .before .before .before .before .before .before .before .before .before .before .before .before .before .before .before .before .before .before .before .before .before in
+    let p = s .pre in
+    let r = readerOf (s .args .task .names) (s .args .table .now) in
+    let h = s .args .task .counts in
+    let l = open-limits (p .0) in (
+      (heardBook r (s .args .book .now), heard-inside r (p .0), p .0 .counts, c .before .before .before .before .before .before .before .before .before .before .before .before .before .draw .ensures),
+      ((subst (λ (n : ℕ). totalRows (layoutOf h) * 8 ≤ n) (sym (c .before .before .before .before .before .before .before .before .before .before .before .says2 .given)) (large-fresh l (p .1 .1 .1 .1 .0) (p .1 .1 .1 .1 .1) .room .rows), subst (λ (n : ℕ). h .concepts ≤ n) (sym (c .before .before .before .before .before .before .before .before .before .before .before .before .leaves2 .given)) (within 4096 _ (l .concepts-top))), p .1 .1 .1 .0),
+    )
 
--- src/allot.rt:74:1
 same-length : tie.Need-same-length
 same-length c = search needs
 
--- src/allot.rt:74:1
 same-length-2 : tie.Need-same-length-2
 same-length-2 c = search needs
 
--- src/allot.rt:74:1
 same-length-3 : tie.Need-same-length-3
 same-length-3 c = search needs
 
--- src/allot.rt:74:1
 same-length-4 : tie.Need-same-length-4
 same-length-4 c = search needs
 
--- src/allot.rt:74:1
 returns : tie.Need-returns
-returns c = let p = c .before .before .before .before .before .before .before .before .before .before .before .before .before .before .before .before .before .before .before .before .before .before .before .before .before .before .before .before .before .before .before .before .before .before .pre in let r = readerOf (c .before .before .before .before .before .before .before .before .before .before .before .before .before .before .before .before .before .before .before .before .before .before .before .before .before .before .before .before .before .before .before .before .before .before .args .task .names) (c .before .before .before .before .before .before .before .before .before .before .before .before .before .before .before .before .before .before .before .before .before .before .before .before .before .before .before .before .before .before .before .before .before .before .args .table .now) in c .before .before .before .before .before .before .before .read-off .ensures (heardBook r (c .before .before .before .before .before .before .before .before .before .before .before .before .before .before .before .before .before .before .before .before .before .before .before .before .before .before .before .before .before .before .before .before .before .before .args .book .now)) (heard-inside r (p .0)) (p .0 .counts) (c .before .before .before .before .before .before .before .before .before .before .before .before .before .before .before .before .before .before .before .before .before .draw .ensures)
+returns c =
+    let s = c .before .before .before .before .before .before .before .before .before .before .before .before .before .before .before .before .before .before .before .before .before .before .before .before .before .before .before .before .before .before .before .before .before in
+    let p = s .pre in
+    let r = readerOf (s .args .task .names) (s .args .table .now) in
+    c .before .before .before .before .before .before .read-off .ensures (heardBook r (s .args .book .now)) (heard-inside r (p .0)) (p .0 .counts) (c .before .before .before .before .before .before .before .before .before .before .before .before .before .before .before .before .before .before .before .before .draw .ensures)
 
 pub large-spec : {M : Type 1} → statement M
 large-spec =

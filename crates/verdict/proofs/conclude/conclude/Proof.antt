@@ -1,9 +1,7 @@
 use native.Mathlib.Omega.{arith}
 use denote.Ref.{now}
-use borrow.Author.Needs.{needs}
-use Rattle.said.specs.declared.layout.Relation.the-variants.{Functional}
-use Rattle.said.proofs.layout.Parts.{part-room}
 use Rattle.verdict.proofs.conclude.Outcomes.{clash-outcome, calm-outcome}
+use borrow.Author.Needs.{needs}
 use Rattle.verdict.proofs.conclude.conclude.Statement.{statement}
 use Rattle.verdict.proofs.conclude.conclude.Tie as tie
 
@@ -38,19 +36,19 @@ returns c =
     let s = k .before .before .before .before .before .before .before .before .before .before in
     let a = s .args in
     let e = l .clear-all .ensures in
-    clash-outcome _ _ _ _ (now (a .types)) (now (a .edges)) (now (a .pairs)) (l .before .before .before .before .before .clash .ensures) (l .before .before .before .before .if1 .taken)
-    (k .list-types .ensures .0) (s .pre .1 .1 .1 .0) (rw (l .before .before .before .before .before .before .before .types .given) at (e .0)) (e .1 .0) (e .1 .1)
+    clash-outcome _ _ _ _ (now (a .labels)) (now (a .types)) (now (a .edges)) (now (a .pairs)) (l .before .before .before .before .before .clash .ensures) (l .before .before .before .before .if1 .taken)
+    (k .list-types .ensures .0) (s .pre .1 .1 .1 .1 .0) (rw (l .before .before .before .before .before .before .before .types .given) at (e .0)) (e .1 .0) (e .1 .1)
 
 part-of-requires : tie.Need-part-of-requires
 part-of-requires c κs = search needs
 
 finish-requires : tie.Need-finish-requires
 finish-requires c κs =
-    let k = c .before .before .before .before .before .before .before .before in
+    let k = c .before .before .before .before .before .before .before in
     let l = k .before .list-types .ensures in
     let p = k .before .before .before .before .before .before .before .before .before .before .before .pre in
-    let o = p .1 .1 in
-    (p .0, (p .1 .0, ((o .0 .3, part-room _ Functional _ (o .0 .1) (c .before .before .before .before .part-of .ensures)), ((l .0, omega (arith, l .0, o .1 .0)), (rw (k .types .given) (l .1), o .1 .1 .1)))))
+    let o = p .1 .1 .1 .1 in
+    (p .0, (p .1 .0, (rw (c .before .before .before .part-of .ensures) (p .1 .1 .0), ((l .0, omega (arith, l .0, o .0)), (rw (k .types .given) (l .1), o .1 .1)))))
 
 same-length-4 : tie.Need-same-length-4
 same-length-4 c = search needs
@@ -61,17 +59,14 @@ same-length-5 c = search needs
 same-length-6 : tie.Need-same-length-6
 same-length-6 c = search needs
 
-same-length-7 : tie.Need-same-length-7
-same-length-7 c = search needs
-
 returns-2 : tie.Need-returns-2
 returns-2 c =
-    let l = c .before .before .before .before .before .before .before .before in
-    let k = l .before .before .before .before .before .before .before .before .before .before in
+    let l = c .before .before .before .before .before .before in
+    let k = l .before .before .before .before .before .before .before .before .before in
     let a = k .before .before .before .before .before .before .before .before .before .before .args in
-    calm-outcome _ _ _ _ (now (a .types)) (now (a .edges)) (now (a .pairs)) (k .list-types .last .0)
-    (l .before .before .before .before .before .before .before .clash .ensures) (l .before .before .before .before .before .before .if1 .left) (l .before .before .before .before .before .part-of .ensures)
-    (l .before .before .before .before .before .before .before .before .before .types .given) (l .finish .ensures)
+    calm-outcome _ _ _ _ (now (a .labels)) (now (a .types)) (now (a .edges)) (now (a .pairs)) (k .list-types .last .0)
+    (l .before .before .before .before .before .before .clash .ensures) (l .before .before .before .before .before .if1 .left)
+    (l .before .before .before .before .before .before .before .before .types .given) (l .finish .ensures)
 
 pub conclude-spec : {M : Type 1} → statement M
 conclude-spec =
@@ -91,5 +86,4 @@ conclude-spec =
     same-length-4
     same-length-5
     same-length-6
-    same-length-7
     returns-2)

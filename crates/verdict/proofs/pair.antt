@@ -1,4 +1,0 @@
-pub mod Blanks
-pub mod Passing
-pub mod Fillers
-pub mod Views
