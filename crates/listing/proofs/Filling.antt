@@ -13,13 +13,18 @@ use Rattle.rules.specs.Rule.{Set}
 use Rattle.rules.specs.Meaning.{conclusions}
 use Rattle.rules.specs.Clash.{clashes}
 use Rattle.rules.specs.Lists.{types, entries2, filled}
-use Rattle.tables.specs.Open.{bookOf, sizeOf}
-use Rattle.tables.proofs.Open.{open-statements}
+use Rattle.book.specs.Reader.{rest}
+use Rattle.tables.specs.Open.{bookOf, sizeOf, Open}
+use Rattle.tables.specs.Tables.{Blank, Labelled, Labels}
+use Rattle.tables.proofs.Open.{open-limits, open-statements}
+use Rattle.tables.proofs.Blank.{blank}
 use Rattle.verdict.specs.Listing.{typesOf}
 use Rattle.verdict.proofs.list.Views.{types-view}
 use Rattle.derivation.specs.Rows.{rowAt, Claim, fact, clash}
 use Rattle.derivation.specs.Accept.{claimAt, accepts, statements}
-use Rattle.derivation.specs.Judging.{Stated}
+use Rattle.derivation.specs.Entering.{Begin, Entered}
+use Rattle.derivation.specs.Judging.{Stated, Marked}
+use Rattle.derivation.proofs.Preparing.{enough}
 use Rattle.steps.specs.Joinings.{dueCount, dueOf}
 use Rattle.steps.specs.Written.{knownIn, Written, Listed}
 use Rattle.steps.proofs.Known.{known-low}
@@ -35,6 +40,41 @@ use Rattle.listing.proofs.Running.{ran-due}
 -- where the statements start
 pub located : {s O L T K P : List ℕ} {h : Counts} → Stated s h O L T K P → Located s h T
 located q = record { room = q .starts-room; count = open-statements (q .opened); starts = q .starts }
+
+-- before the statements are entered, and when they are: T is what takes a concept, of as much room as the concepts ask for
+module _ {s O : List ℕ} {h : Counts} (o : Open s h O) where
+  pub begin-in : {at : ℕ} {S T P K : List ℕ} → rest s h at ≡ bookOf s .statements → 4096 ≤ length S → Blank T → h .concepts * 8 ≤ length T → 2048 ≤ length P → Blank P → Labelled (h .individuals) K → Labels (h .individuals) K (λ i. i)
+      → Begin s h at S T (replicate 2048 0) P (replicate 8 0) K
+  begin-in left few none room wide clean labelled own = record {
+    limits = open-limits o;
+    count = open-statements o;
+    left = left;
+    room = omega (arith, open-limits o .statements-top);
+    rooms = record {
+      takers = room;
+      disjoint = enough 2048 (h .classes * 8) (omega (arith, open-limits o .classes-top));
+      pairs = omega (arith, open-limits o .classes-top);
+      functional = enough 8 8 (omega arith);
+    };
+    takers = none;
+    disjoint = blank 2048;
+    pairs = clean;
+    functional = blank 8;
+    labelled = labelled;
+    labels = own;
+  }
+
+  pub marked-in : {S T J P F K : List ℕ} {m n : ℕ} → Entered s h S T J P F K → length T ≡ m → h .concepts * 8 ≤ m → length J ≡ length (replicate {A = ℕ} 2048 0) → length P ≡ n → 2048 ≤ n → length F ≡ length (replicate {A = ℕ} 8 0) → Marked s h T J P F
+  marked-in e t k j p l f = record {
+    room = omega arith;
+    disjoint-room = omega (arith, j, length-replicate {0} {A = ℕ} 2048 0);
+    pairs-room = omega arith;
+    functional-room = omega (arith, f, length-replicate {0} {A = ℕ} 8 0);
+    takers = e .holding .takers;
+    disjoint = e .holding .disjoint;
+    pairs = e .holding .pairs;
+    functional = e .holding .functional;
+  }
 
 -- rows that stay
 written-same : (B : Book) (P : Set) (n : ℕ) (l m : List ℕ) → Old n l m → Written B P n l → Written B P n m

@@ -5,3 +5,4 @@ pub mod Running
 pub mod Telling
 pub mod Counting
 pub mod Filling
+pub mod Words

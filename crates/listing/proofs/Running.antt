@@ -6,8 +6,12 @@ use mathlib.Core.Path.{_≡_, refl, ap, sym, _∙_, subst}
 use mathlib.Core.Bool.{Bool, true, false, not, _&&_}
 use mathlib.Core.List.{List}
 use lib.ListN.{length, replicate, length-replicate, length-append}
-use Rattle.book.specs.Read.{pick}
+use Rattle.book.specs.Read.{pick, value, refusal}
+use Rattle.book.specs.Header.{header}
 use Rattle.book.specs.Book.{Book, Decoded, accepted, refused, decode}
+use Rattle.book.specs.declared.header.Counts.{Counts}
+use Rattle.book.proofs.Parsing.{no-value, same-value}
+use Rattle.book.proofs.Accepted.{layout}
 use Rattle.rules.specs.Fact.{cap, Two, two}
 use Rattle.rules.specs.Rule.{Set}
 use Rattle.rules.specs.ToldSame.{same}
@@ -28,7 +32,7 @@ use Rattle.verdict.proofs.list.Gathers.{gather-few}
 use Rattle.steps.specs.Joinings.{joinings, dueCount, dueOf}
 use Rattle.steps.proofs.Joinings.{due-counted}
 use Rattle.listing.specs.declared.run.Numbers.{Numbers}
-use Rattle.listing.specs.Running.{numbersOf, rowsFor, Ran, RunListed, ended-as}
+use Rattle.listing.specs.Running.{numbersOf, rowsFor, PairsFit, PlainRun, Ran, RunListed, ended-as}
 use Rattle.listing.specs.Listing.{rowCount, Ended, zeros, endedFrom, ended, Listing, Lists, Left, RowsRun}
 use Rattle.listing.proofs.Ended as own
 
@@ -71,15 +75,27 @@ used-few s e =
     let i = accepted-inside s (bookOf s) e in
     omega (arith, used-counted (bookOf s) (i .limits) (conclusions (bookOf s)) (conclusions-own (bookOf s) i), count-le (conclusions (bookOf s)) cap)
 
--- there are no more same pairs than pairs
-pairs-few : (B : Book) → B .counts .individuals ≤ 512 → length (pairs B (conclusions B)) ≤ 262144
+-- of at most m individuals each has at most m same pairs
+pairs-below : (B : Book) (m : ℕ) → B .counts .individuals ≤ m → length (pairs B (conclusions B)) ≤ B .counts .individuals * m
 unfolding pairs
-pairs-few B l =
+pairs-below B m l =
     omega (
       arith,
       length-gather (B .counts .individuals) (λ i. gather (B .counts .individuals) λ j. only (samePair (conclusions B) i j) (two i j)),
-      sum-le (B .counts .individuals) 512 (λ i. length (gather (B .counts .individuals) λ j. only (samePair (conclusions B) i j) (two i j))) (λ i m. omega (arith, gather-few (B .counts .individuals) (samePair (conclusions B) i) (two i))),
+      sum-le (B .counts .individuals) m (λ i. length (gather (B .counts .individuals) λ j. only (samePair (conclusions B) i j) (two i j))) (λ i k. omega (arith, gather-few (B .counts .individuals) (samePair (conclusions B) i) (two i))),
     )
+
+pub fit-many : (s : List ℕ) → PairsFit s 524288
+fit-many s B d = let l = accepted-inside s B d .limits .individuals-top in omega (arith, l, pairs-below B 512 l)
+
+pub fit-few : (s : List ℕ) {h : Counts} {next : ℕ} → header s 0 ≡ value h next → h .individuals ≤ 16 → PairsFit s 512
+fit-few s {h} {next} e l B d =
+    let q = same-value (B .counts) h _ next (sym (layout s B d .head) ∙ e) .0 in
+    let m : B .counts .individuals ≤ 16 = subst (λ (g : Counts). g .individuals ≤ 16) (sym q) l in
+    omega (arith, m, pairs-below B 16 m)
+
+pub fit-none : (s : List ℕ) {n : ℕ} → header s 0 ≡ refusal n → PairsFit s 512
+fit-none s {n} e B d = no-value n (B .counts) _ (sym e ∙ layout s B d .head)
 
 -- and no more joinings than same pairs
 gather-fewer : (n : ℕ) (f g : ℕ → List Two) → ((k : ℕ) → length (f k) ≤ length (g k)) → length (gather n f) ≤ length (gather n g)
@@ -126,7 +142,7 @@ module _ (s : List ℕ) (budget : ℕ) (ts es rs : List ℕ) where
   Plainly o (Clash t e) = Stood o (clashed t e)
   Plainly o (Finished t e p) = Stood o (finished t e p)
 
-  module _ (ps : List ℕ) (long : length ps ≡ 524288) where
+  module _ (ps : List ℕ) (fit : PairsFit s (length ps)) where
     at : (y : Outcome) (x : End) → outcome s budget ts es ps .end ≡ x → outcome s budget ts es ps ≡ y → Plainly y (y .end) → Plainly (outcome s budget ts es ps) x
     at y x q e p = subst (λ (z : End). Plainly (outcome s budget ts es ps) z) (ap (λ (o : Outcome). o .end) (sym e) ∙ q) (subst (λ (o : Outcome). Plainly o (y .end)) (sym e) p)
 
@@ -161,7 +177,7 @@ module _ (s : List ℕ) (budget : ℕ) (ts es rs : List ℕ) where
       due z e = rw e refl
 
       few-pairs : 2 * Q ≤ length ps
-      few-pairs = omega (arith, long, pairs-few (bookOf s) (accepted-inside s (bookOf s) whole .limits .individuals-top))
+      few-pairs = fit (bookOf s) whole
 
       module _ (spare : used (bookOf s) (conclusions (bookOf s)) ≤ budget) where
         stood-clash : clashes (bookOf s) (conclusions (bookOf s)) ≡ true → Stood (cleared ts es ps (Clash T E)) (clashed T E)

@@ -1,7 +1,6 @@
 -- The told-same classes are put into their rows, and then nothing that is known is due a row.
 use Prim.Native.Nat.{ℕ, _+_, _-_, _*_, _/_, _%_, _<_, _≤_}
 use native.Mathlib.Decide.{ℕ-discrete, decLt}
-use native.Mathlib.Nat.{mul-le-mul-right}
 use native.Mathlib.Omega.{arith}
 use mathlib.Core.Path.{_≡_, refl, ap, sym, _∙_, subst}
 use mathlib.Core.Bool.{Bool, true, false, not, _||_}
@@ -10,7 +9,6 @@ use lib.ListN.{length, getD}
 use lib.Dec.{eqb}
 use borrow.Author.Tests.{eq-eqb, ne-eqb, eqb-true}
 use Rattle.book.specs.Book.{Book}
-use Rattle.book.specs.Header.{Limits}
 use Rattle.book.specs.declared.header.Counts.{Counts}
 use Rattle.rows.specs.Row.{at, has, Put}
 use Rattle.rows.specs.Table.{base, Table}
@@ -77,13 +75,6 @@ module _ (h : Counts) (K : List ℕ) where
       go : (i j : ℕ) → i < m + 1 → j < h .individuals → Dec (i ≡ m) → has u (classRow h i) j ≡ (has s (classRow h i) j || oneLabel K i j)
       go i j l n (yes e) = subst (λ (x : ℕ). has u (classRow h x) j ≡ (has s (classRow h x) j || oneLabel K x j)) (sym e) (last j n)
       go i j l n (no e) = o .other (classRow h i * 512 + j) (λ b c q. e (omega arith)) ∙ r .there i j (omega arith) n
-
--- no book asks for more words than these
-pub most-words : (h : Counts) → Limits h → classRow h (h .individuals) * 8 ≤ 536616
-unfolding base
-most-words h t =
-    let m = mul-le-mul-right {m = 2 * h .roles + 2 - 1} {n = 129} (h .individuals) (omega (arith, t .roles-top)) in
-    omega (arith, t .roles-top, t .individuals-top, t .classes-top)
 
 -- ---- no row yet
 

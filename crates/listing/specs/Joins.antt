@@ -1,11 +1,17 @@
 -- How many joinings are due (src/join.rt): the told labels T and the labels K of a run show them.
 use Prim.Native.Nat.{ℕ}
-use mathlib.Core.Bool.{Bool, not, _&&_}
+use mathlib.Core.Bool.{Bool, false, not, _&&_}
 use mathlib.Core.List.{List}
 use lib.ListN.{getD}
 use lib.Dec.{ltb, eqb}
+use Rattle.book.specs.declared.header.Counts.{Counts}
 use Rattle.rules.specs.Fact.{Two, two}
 use Rattle.rules.specs.Lists.{gather, only}
+use Rattle.saturation.specs.declared.enter.Task.{Task}
+
+-- a run of the whole book, for everyone, with this budget
+abbrev pub wholeTask : Counts → ℕ → ℕ → Task
+wholeTask h from budget = record { counts = h; from = from; budget = budget; names = record { named = false; reader = 0; dated = false; day = 0 } }
 
 -- i and j, lower number first, have one label of K, and different ones of T
 unfoldable pub joinedBy : List ℕ → List ℕ → ℕ → ℕ → Bool

@@ -9,11 +9,23 @@ use Rattle.book.specs.Book.{Book, accepted, decode}
 use Rattle.rules.specs.Meaning.{conclusions}
 use Rattle.rules.specs.Clash.{clashes}
 use Rattle.rules.specs.Lists.{types, edges, pairs, used, entries2, filled}
-use Rattle.rules.specs.Ends.{End, Refused, Clash, Finished}
+use Rattle.rules.specs.Ends.{End, Refused, Clash, Finished, outcome}
 use Rattle.tables.specs.Open.{bookOf}
 use Rattle.steps.specs.Joinings.{joinings}
 use Rattle.listing.specs.declared.run.Numbers.{Numbers}
 use Rattle.listing.specs.Listing.{Ended, zeros, Listing}
+
+-- a pair list of n entries has room for all same pairs of the book that the bytes are
+abbrev pub PairsFit : List ℕ → ℕ → Type 0
+PairsFit s n = (B : Book) → decode s ≡ accepted B → 2 * length (pairs B (conclusions B)) ≤ n
+
+-- the run itself, with a pair list that has room: its end, and the types and edges that it leaves
+pub record PlainRun (s : List ℕ) (budget : ℕ) (ts es : List ℕ) (end : End) (us fs : List ℕ) : Type 0 where
+  pub list : List ℕ
+  pub room : PairsFit s (length list)
+  pub ends : end ≡ outcome s budget ts es list .end
+  pub types : us ≡ outcome s budget ts es list .types
+  pub edges : fs ≡ outcome s budget ts es list .edges
 
 -- the numbers of a run of the bytes s, with the joinings that there are
 abbrev pub numbersOf : List ℕ → ℕ → ℕ → ℕ → Bool → Numbers

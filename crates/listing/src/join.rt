@@ -9,15 +9,16 @@ ghost use Rattle.rules.specs.Meaning.{conclusions};
 ghost use Rattle.rules.specs.Lists.{used as usedOf};
 ghost use Rattle.tables.specs.Open.{bookOf, Open};
 ghost use Rattle.tables.specs.Tables.{Blank};
-ghost use Rattle.saturation.specs.Run.{rowsOf};
+ghost use Rattle.saturation.specs.Run.{Small, rowsOf};
 ghost use Rattle.derivation.specs.Tables.{LabelsOf};
 ghost use Rattle.steps.specs.Joinings.{joinings};
-ghost use Rattle.listing.specs.Joins.{joinedBy, joinedWith, joinedAmong};
+ghost use Rattle.listing.specs.Joins.{joinedBy, joinedWith, joinedAmong, wholeTask};
 use super::fill::state;
 use book::check::Checked;
 use book::check::check_book;
 use book::header::Counts;
 use heed::names::Names;
+use saturation::allot::wanted;
 use saturation::enter::Task;
 use saturation::run::draw;
 use tables::leaf::read_leaves;
@@ -70,23 +71,9 @@ fn count_all(told: &[u32], labels: &[u32], n: usize) -> u32
     c
 }
 
-// By the told labels, and a run in the blank table t.
-fn count_in(
-    book: &[u8],
-    from: usize,
-    offsets: &[usize],
-    counts: Counts,
-    used: u32,
-    told: &[u32],
-    t: &mut [u64],
-) -> u32
-    requires { ⌜ Open (now book) counts (now offsets) ⌝ }
-    requires { ⌜ rest (now book) counts from ≡ bookOf (now book) .statements ⌝ }
-    requires { ⌜ used ≡ usedOf (bookOf (now book)) (conclusions (bookOf (now book))) ⌝ }
-    requires { ⌜ LabelsOf (bookOf (now book)) counts (now told) × (counts .individuals ≤ length (now told)) ⌝ }
-    requires { ⌜ Blank (now t) ⌝ }
-    requires { ⌜ rowsOf counts * 8 ≤ length (now t) ⌝ }
-    ensures { λ r. ⌜ r ≡ length (joinings (bookOf (now (book .entry))) (conclusions (bookOf (now (book .entry))))) ⌝ }
+// A run of the whole book, for everyone.
+fn whole_task(counts: Counts, from: usize, used: u32) -> Task
+    ensures { λ r. ⌜ r ≡ wholeTask counts from used ⌝ }
 {
     let names = Names {
         named: false,
@@ -94,60 +81,30 @@ fn count_in(
         dated: false,
         day: 0,
     };
-    let table = [0u32; 1];
-    let task = Task {
+    Task {
         counts,
         from,
         budget: used,
         names,
-    };
-    let mut says = [0u64; 75784];
-    let mut chains = [0u8; 16384];
-    let mut labels = [0u32; 512];
-    let mut leaves = [0u32; 4096];
-    draw(
-        book,
-        offsets,
-        task,
-        &table,
-        &mut leaves,
-        &mut says,
-        &mut chains,
-        &mut labels,
-        t,
-    );
-    count_all(told, &labels, counts.individuals as usize)
+    }
 }
 
-// By the told labels.
-fn count_told(
+// The told labels.
+fn read_told(
     book: &[u8],
     from: usize,
     offsets: &[usize],
     counts: Counts,
-    used: u32,
-    told: &[u32],
-) -> u32
+    takers: &mut [u64],
+    told: &mut [u32],
+)
     requires { ⌜ Open (now book) counts (now offsets) ⌝ }
     requires { ⌜ rest (now book) counts from ≡ bookOf (now book) .statements ⌝ }
-    requires { ⌜ used ≡ usedOf (bookOf (now book)) (conclusions (bookOf (now book))) ⌝ }
-    requires { ⌜ LabelsOf (bookOf (now book)) counts (now told) × (counts .individuals ≤ length (now told)) ⌝ }
-    ensures { λ r. ⌜ r ≡ length (joinings (bookOf (now (book .entry))) (conclusions (bookOf (now (book .entry))))) ⌝ }
-{
-    let mut t = [0u64; 531480];
-    count_in(book, from, offsets, counts, used, told, &mut t)
-}
-
-// Of a checked book.
-fn count_checked(book: &[u8], from: usize, offsets: &[usize], counts: Counts, used: u32) -> u32
-    requires { ⌜ Open (now book) counts (now offsets) ⌝ }
-    requires { ⌜ rest (now book) counts from ≡ bookOf (now book) .statements ⌝ }
-    requires { ⌜ used ≡ usedOf (bookOf (now book)) (conclusions (bookOf (now book))) ⌝ }
-    ensures { λ r. ⌜ r ≡ length (joinings (bookOf (now (book .entry))) (conclusions (bookOf (now (book .entry))))) ⌝ }
+    requires { ⌜ Blank (now takers) × (counts .concepts * 8 ≤ length (now takers)) × (512 ≤ length (now told)) ⌝ }
+    ensures { λ _. ⌜ LabelsOf (bookOf (now (book .entry))) counts (now (told .exit)) × (counts .individuals ≤ length (now (told .exit))) ⌝ }
 {
     let mut leaves = [0u32; 4096];
     let mut starts = [0usize; 4096];
-    let mut told = [0u32; 512];
     let mut pairs = [0u64; 2048];
     read_leaves(book, offsets, counts, &mut leaves);
     state(
@@ -157,10 +114,95 @@ fn count_checked(book: &[u8], from: usize, offsets: &[usize], counts: Counts, us
         counts,
         &leaves,
         &mut starts,
-        &mut told,
+        told,
         &mut pairs,
+        takers,
     );
-    count_told(book, from, offsets, counts, used, &told)
+}
+
+// By the told labels and a run, in tables for a small book.
+fn count_few(book: &[u8], from: usize, offsets: &[usize], counts: Counts, used: u32) -> u32
+    requires { ⌜ Open (now book) counts (now offsets) ⌝ }
+    requires { ⌜ rest (now book) counts from ≡ bookOf (now book) .statements ⌝ }
+    requires { ⌜ used ≡ usedOf (bookOf (now book)) (conclusions (bookOf (now book))) ⌝ }
+    requires { ⌜ Small counts × (rowsOf counts ≤ 64) ⌝ }
+    ensures { λ r. ⌜ r ≡ length (joinings (bookOf (now (book .entry))) (conclusions (bookOf (now (book .entry))))) ⌝ }
+{
+    let mut takers = [0u64; 512];
+    let mut told = [0u32; 512];
+    read_told(book, from, offsets, counts, &mut takers, &mut told);
+    let table = [0u32; 1];
+    let mut t = [0u64; 512];
+    let mut says = [0u64; 1416];
+    let mut chains = [0u8; 256];
+    let mut labels = [0u32; 16];
+    let mut leaves = [0u32; 64];
+    draw(
+        book,
+        offsets,
+        whole_task(counts, from, used),
+        &table,
+        &mut leaves,
+        &mut says,
+        &mut chains,
+        &mut labels,
+        &mut t,
+    );
+    count_all(&told, &labels, counts.individuals as usize)
+}
+
+// In tables for any book.
+fn count_many(book: &[u8], from: usize, offsets: &[usize], counts: Counts, used: u32) -> u32
+    requires { ⌜ Open (now book) counts (now offsets) ⌝ }
+    requires { ⌜ rest (now book) counts from ≡ bookOf (now book) .statements ⌝ }
+    requires { ⌜ used ≡ usedOf (bookOf (now book)) (conclusions (bookOf (now book))) ⌝ }
+    ensures { λ r. ⌜ r ≡ length (joinings (bookOf (now (book .entry))) (conclusions (bookOf (now (book .entry))))) ⌝ }
+{
+    let mut takers = [0u64; 32768];
+    let mut told = [0u32; 512];
+    read_told(book, from, offsets, counts, &mut takers, &mut told);
+    let table = [0u32; 1];
+    let mut t = [0u64; 531480];
+    let mut says = [0u64; 75784];
+    let mut chains = [0u8; 16384];
+    let mut labels = [0u32; 512];
+    let mut leaves = [0u32; 4096];
+    draw(
+        book,
+        offsets,
+        whole_task(counts, from, used),
+        &table,
+        &mut leaves,
+        &mut says,
+        &mut chains,
+        &mut labels,
+        &mut t,
+    );
+    count_all(&told, &labels, counts.individuals as usize)
+}
+
+// Of a checked book, from the smaller tables on (as `allot` of crate saturation).
+fn count_checked(
+    book: &[u8],
+    from: usize,
+    offsets: &[usize],
+    counts: Counts,
+    used: u32,
+    step: u32,
+) -> u32
+    requires { ⌜ Open (now book) counts (now offsets) ⌝ }
+    requires { ⌜ rest (now book) counts from ≡ bookOf (now book) .statements ⌝ }
+    requires { ⌜ used ≡ usedOf (bookOf (now book)) (conclusions (bookOf (now book))) ⌝ }
+    ensures { λ r. ⌜ r ≡ length (joinings (bookOf (now (book .entry))) (conclusions (bookOf (now (book .entry))))) ⌝ }
+{
+    let size = wanted(counts);
+    if step < size {
+        return count_checked(book, from, offsets, counts, used, step + 1);
+    }
+    if size == 0 {
+        return count_few(book, from, offsets, counts, used);
+    }
+    count_many(book, from, offsets, counts, used)
 }
 
 fn count_any(book: &[u8], offsets: &mut [usize], used: u32) -> u32
@@ -173,7 +215,7 @@ fn count_any(book: &[u8], offsets: &mut [usize], used: u32) -> u32
     let Checked::Accepted(counts, from) = check else {
         return 0;
     };
-    count_checked(book, from, offsets, counts, used)
+    count_checked(book, from, offsets, counts, used, 0)
 }
 
 // Of a book that was run, with so many types and edges.

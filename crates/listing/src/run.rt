@@ -9,18 +9,22 @@ ghost use Rattle.book.specs.Reader.{rest};
 ghost use Rattle.rows.specs.Table.{Table};
 ghost use Rattle.rules.specs.Meaning.{conclusions};
 ghost use Rattle.rules.specs.Lists.{used as usedOf, pairs as pairsOf, entries2, filled};
-ghost use Rattle.rules.specs.Ends.{outcome};
 ghost use Rattle.tables.specs.Open.{bookOf, sizeOf, Open};
 ghost use Rattle.verdict.specs.Listing.{typesOf};
 ghost use Rattle.verdict.specs.Conclude.{endOf};
 ghost use Rattle.steps.specs.Joinings.{joinings};
 ghost use Rattle.listing.specs.Listing.{RowsRun};
-ghost use Rattle.listing.specs.Running.{numbersOf, rowsFor, Ran, RowsLeft, RunListed, ended-as};
+ghost use Rattle.saturation.specs.Run.{Small, rowsOf};
+ghost use Rattle.listing.specs.Filled.{Fresh};
+ghost use Rattle.listing.specs.Running.{numbersOf, rowsFor, PairsFit, PlainRun, Ran, RowsLeft, RunListed, ended-as};
 use super::fill::fill_rows;
 use super::join::count_joinings;
 use book::check::Checked;
 use book::check::check_book;
 use book::header::Counts;
+use book::header::ReadHeader;
+use book::header::header_at;
+use saturation::allot::wanted;
 use saturation::saturate::saturate;
 use tables::size::size_of;
 use turns::round::Due;
@@ -57,14 +61,50 @@ fn entries_due(numbers: Numbers) -> usize
     9 * n
 }
 
-// The run itself, with a pair list that has room for all pairs there can be.
-fn run_plain(book: &[u8], budget: u64, types: &mut [u32], edges: &mut [u32]) -> End
-    ensures { λ r. ⌜ endOf r ≡ outcome (now (book .entry)) budget (now (types .entry)) (now (edges .entry)) (replicate 524288 0) .end ⌝ }
-    ensures { λ r. ⌜ now (types .exit) ≡ outcome (now (book .entry)) budget (now (types .entry)) (now (edges .entry)) (replicate 524288 0) .types ⌝ }
-    ensures { λ r. ⌜ now (edges .exit) ≡ outcome (now (book .entry)) budget (now (types .entry)) (now (edges .entry)) (replicate 524288 0) .edges ⌝ }
+// Which pair list has room for all pairs of a book: 0 for at most 16 individuals, 1 for any.
+fn pairs_wanted(book: &[u8]) -> u32
+    ensures { λ r. ⌜ (r ≡ 0 → PairsFit (now (book .entry)) 512) × (r ≤ 1) ⌝ }
+{
+    let head = header_at(book);
+    let ReadHeader::Next(counts, _) = head else {
+        return 0;
+    };
+    if counts.individuals > 16 {
+        return 1;
+    }
+    0
+}
+
+// The run itself, with room for the pairs of at most 16 individuals.
+fn run_few(book: &[u8], budget: u64, types: &mut [u32], edges: &mut [u32]) -> End
+    requires { ⌜ PairsFit (now book) 512 ⌝ }
+    ensures { λ r. ⌜ PlainRun (now (book .entry)) budget (now (types .entry)) (now (edges .entry)) (endOf r) (now (types .exit)) (now (edges .exit)) ⌝ }
+{
+    let mut pairs = [0u32; 512];
+    saturate(book, budget, types, edges, &mut pairs)
+}
+
+// With room for all pairs there can be.
+fn run_many(book: &[u8], budget: u64, types: &mut [u32], edges: &mut [u32]) -> End
+    ensures { λ r. ⌜ PlainRun (now (book .entry)) budget (now (types .entry)) (now (edges .entry)) (endOf r) (now (types .exit)) (now (edges .exit)) ⌝ }
 {
     let mut pairs = [0u32; 524288];
     saturate(book, budget, types, edges, &mut pairs)
+}
+
+// From the smaller pair list on: a function that calls itself is not merged with what it calls, so a small book does not walk over the larger list (as
+// `allot` of crate saturation).
+fn run_plain(book: &[u8], budget: u64, types: &mut [u32], edges: &mut [u32], step: u32) -> End
+    ensures { λ r. ⌜ PlainRun (now (book .entry)) budget (now (types .entry)) (now (edges .entry)) (endOf r) (now (types .exit)) (now (edges .exit)) ⌝ }
+{
+    let size = pairs_wanted(book);
+    if step < size {
+        return run_plain(book, budget, types, edges, step + 1);
+    }
+    if size == 0 {
+        return run_few(book, budget, types, edges);
+    }
+    run_many(book, budget, types, edges)
 }
 
 // The types again, where the run has any: until then their list has the places of the rows.
@@ -79,8 +119,82 @@ fn list_again(t: &[u64], counts: Counts, numbers: Numbers, types: &mut [u32])
     list_types(types, t, size_of(counts));
 }
 
-// The rows of a checked book.
-fn list_checked(
+// The rows of a checked book, in blank tables.
+fn list_in(
+    book: &[u8],
+    from: usize,
+    offsets: &[usize],
+    counts: Counts,
+    numbers: Numbers,
+    types: &mut [u32],
+    rows: &mut [u32],
+    t: &mut [u64],
+    takers: &mut [u64],
+    deep: &mut [u64],
+)
+    requires { ⌜ Open (now book) counts (now offsets) ⌝ }
+    requires { ⌜ rest (now book) counts from ≡ bookOf (now book) .statements ⌝ }
+    requires { ⌜ Ran (now book) numbers (now types) × (9 * rowsFor numbers ≤ length (now rows)) ⌝ }
+    requires { ⌜ Fresh counts (now t) (now takers) (now deep) ⌝ }
+    ensures { λ _. ⌜ RowsLeft (now (book .entry)) numbers (now (types .entry)) (now (rows .entry)) (now (types .exit)) (now (rows .exit)) ⌝ }
+{
+    let rows_due = numbers.types + numbers.edges + numbers.joinings;
+    let due = Due {
+        counts,
+        rows: rows_due,
+    };
+    clear(types, 0);
+    fill_rows(
+        book,
+        from,
+        offsets,
+        due,
+        numbers.clashes,
+        t,
+        rows,
+        types,
+        takers,
+        deep,
+    );
+    list_again(t, counts, numbers, types);
+    clear(rows, entries_due(numbers));
+}
+
+// In tables for a small book.
+fn list_few(
+    book: &[u8],
+    from: usize,
+    offsets: &[usize],
+    counts: Counts,
+    numbers: Numbers,
+    types: &mut [u32],
+    rows: &mut [u32],
+)
+    requires { ⌜ Open (now book) counts (now offsets) ⌝ }
+    requires { ⌜ rest (now book) counts from ≡ bookOf (now book) .statements ⌝ }
+    requires { ⌜ Ran (now book) numbers (now types) × (9 * rowsFor numbers ≤ length (now rows)) ⌝ }
+    requires { ⌜ Small counts × (rowsOf counts ≤ 64) ⌝ }
+    ensures { λ _. ⌜ RowsLeft (now (book .entry)) numbers (now (types .entry)) (now (rows .entry)) (now (types .exit)) (now (rows .exit)) ⌝ }
+{
+    let mut t = [0u64; 720];
+    let mut takers = [0u64; 512];
+    let mut deep = [0u64; 4096];
+    list_in(
+        book,
+        from,
+        offsets,
+        counts,
+        numbers,
+        types,
+        rows,
+        &mut t,
+        &mut takers,
+        &mut deep,
+    );
+}
+
+// In tables for any book.
+fn list_many(
     book: &[u8],
     from: usize,
     offsets: &[usize],
@@ -95,24 +209,48 @@ fn list_checked(
     ensures { λ _. ⌜ RowsLeft (now (book .entry)) numbers (now (types .entry)) (now (rows .entry)) (now (types .exit)) (now (rows .exit)) ⌝ }
 {
     let mut t = [0u64; 536616];
-    let rows_due = numbers.types + numbers.edges + numbers.joinings;
-    let due = Due {
-        counts,
-        rows: rows_due,
-    };
-    clear(types, 0);
-    fill_rows(
+    let mut takers = [0u64; 32768];
+    let mut deep = [0u64; 262144];
+    list_in(
         book,
         from,
         offsets,
-        due,
-        numbers.clashes,
-        &mut t,
-        rows,
+        counts,
+        numbers,
         types,
+        rows,
+        &mut t,
+        &mut takers,
+        &mut deep,
     );
-    list_again(&t, counts, numbers, types);
-    clear(rows, entries_due(numbers));
+}
+
+// From the smaller tables on.
+fn list_checked(
+    book: &[u8],
+    from: usize,
+    offsets: &[usize],
+    counts: Counts,
+    numbers: Numbers,
+    types: &mut [u32],
+    rows: &mut [u32],
+    step: u32,
+)
+    requires { ⌜ Open (now book) counts (now offsets) ⌝ }
+    requires { ⌜ rest (now book) counts from ≡ bookOf (now book) .statements ⌝ }
+    requires { ⌜ Ran (now book) numbers (now types) × (9 * rowsFor numbers ≤ length (now rows)) ⌝ }
+    ensures { λ _. ⌜ RowsLeft (now (book .entry)) numbers (now (types .entry)) (now (rows .entry)) (now (types .exit)) (now (rows .exit)) ⌝ }
+{
+    let size = wanted(counts);
+    if step < size {
+        list_checked(book, from, offsets, counts, numbers, types, rows, step + 1);
+        return;
+    }
+    if size == 0 {
+        list_few(book, from, offsets, counts, numbers, types, rows);
+        return;
+    }
+    list_many(book, from, offsets, counts, numbers, types, rows);
 }
 
 fn list_any(
@@ -130,7 +268,7 @@ fn list_any(
     let Checked::Accepted(counts, from) = check else {
         return;
     };
-    list_checked(book, from, offsets, counts, numbers, types, rows);
+    list_checked(book, from, offsets, counts, numbers, types, rows, 0);
 }
 
 // The rows of a book that was run.
@@ -214,7 +352,7 @@ pub fn saturate_rows(
 ) -> End
     ensures { λ r. ⌜ RowsRun (now (book .entry)) budget (now (types .entry)) (now (edges .entry)) (now (rows .entry)) (record { end = endOf r; types = now (types .exit); edges = now (edges .exit) }) (now (rows .exit)) ⌝ }
 {
-    let end = run_plain(book, budget, types, edges);
+    let end = run_plain(book, budget, types, edges, 0);
     match end {
         End::Refused(n) => End::Refused(n),
         End::Spent => End::Spent,

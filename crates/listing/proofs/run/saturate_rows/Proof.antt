@@ -1,6 +1,6 @@
 use Prim.Native.Nat.{ℕ, _+_, _-_, _*_, _≤_, _<_}
 use mathlib.Core.Path.{_≡_, refl, ap, sym, _∙_, subst}
-use lib.ListN.{length, replicate, length-replicate}
+use lib.ListN.{length}
 use Rattle.rules.specs.Ends.{Refused, Spent, Clash, Finished, outcome}
 use Rattle.verdict.specs.Conclude.{endOf}
 use Rattle.listing.proofs.Running.{ran-used, ran-of, plainly, run-early, run-spent, run-rows}
@@ -26,20 +26,20 @@ number-requires : tie.Need-number-requires
 number-requires c κs =
     let a = c .before .before .before .before .before .before .before .before .before .before .before .before .before .before .args in
     let e = c .before .before .before .before .before .before .before .run-plain .ensures in
-    let o = outcome (a .book .now) (a .budget) (a .types .now) (a .edges .now) (replicate 524288 0) in
-    let z = plainly (a .book .now) (a .budget) (a .types .now) (a .edges .now) (a .rows .now) (replicate 524288 0) (length-replicate {0} {A = ℕ} 524288 0) in
+    let o = outcome (a .book .now) (a .budget) (a .types .now) (a .edges .now) (e .list) in
+    let z = plainly (a .book .now) (a .budget) (a .types .now) (a .edges .now) (a .rows .now) (e .list) (e .room) in
     let g = c .before .end2 .given in
-    let w = (z (Clash (g .0 .0) (g .0 .1 .0)) (sym (e .0) ∙ ap endOf (g .1))) in
+    let w = (z (Clash (g .0 .0) (g .0 .1 .0)) (sym (e .ends) ∙ ap endOf (g .1))) in
     (w .ran .whole, (ran-used (w .ran), w .pairs))
 
 run-listed-requires : tie.Need-run-listed-requires
 run-listed-requires c κs =
     let a = c .before .before .before .before .before .before .before .before .before .before .before .before .before .before .before .before .before .before .args in
     let e = c .before .before .before .before .before .before .before .before .before .before .before .run-plain .ensures in
-    let o = outcome (a .book .now) (a .budget) (a .types .now) (a .edges .now) (replicate 524288 0) in
-    let z = plainly (a .book .now) (a .budget) (a .types .now) (a .edges .now) (a .rows .now) (replicate 524288 0) (length-replicate {0} {A = ℕ} 524288 0) in
+    let o = outcome (a .book .now) (a .budget) (a .types .now) (a .edges .now) (e .list) in
+    let z = plainly (a .book .now) (a .budget) (a .types .now) (a .edges .now) (a .rows .now) (e .list) (e .room) in
     let g = c .before .before .before .before .before .end2 .given in
-    rw (c .before .before .before .number .ensures) (ran-of (a .book .now) (a .budget) (a .types .now) (a .edges .now) (a .rows .now) o _ (z (Clash (g .0 .0) (g .0 .1 .0)) (sym (e .0) ∙ ap endOf (g .1))) (e .1 .0))
+    rw (c .before .before .before .number .ensures) (ran-of (a .book .now) (a .budget) (a .types .now) (a .edges .now) (a .rows .now) o _ (z (Clash (g .0 .0) (g .0 .1 .0)) (sym (e .ends) ∙ ap endOf (g .1))) (e .types))
 
 enum-known-end-3 : tie.Need-enum-known-end-3
 enum-known-end-3 c = search needs
@@ -48,20 +48,20 @@ number-requires-2 : tie.Need-number-requires-2
 number-requires-2 c κs =
     let a = c .before .before .before .before .before .before .before .before .before .before .before .before .before .before .args in
     let e = c .before .before .before .before .before .before .before .run-plain .ensures in
-    let o = outcome (a .book .now) (a .budget) (a .types .now) (a .edges .now) (replicate 524288 0) in
-    let z = plainly (a .book .now) (a .budget) (a .types .now) (a .edges .now) (a .rows .now) (replicate 524288 0) (length-replicate {0} {A = ℕ} 524288 0) in
+    let o = outcome (a .book .now) (a .budget) (a .types .now) (a .edges .now) (e .list) in
+    let z = plainly (a .book .now) (a .budget) (a .types .now) (a .edges .now) (a .rows .now) (e .list) (e .room) in
     let g = c .before .end3 .given in
-    let w = (z (Finished (g .0 .0) (g .0 .1 .0) (g .0 .1 .1 .0)) (sym (e .0) ∙ ap endOf (g .1))) in
+    let w = (z (Finished (g .0 .0) (g .0 .1 .0) (g .0 .1 .1 .0)) (sym (e .ends) ∙ ap endOf (g .1))) in
     (w .ran .whole, (ran-used (w .ran), w .pairs))
 
 run-listed-requires-2 : tie.Need-run-listed-requires-2
 run-listed-requires-2 c κs =
     let a = c .before .before .before .before .before .before .before .before .before .before .before .before .before .before .before .before .before .before .args in
     let e = c .before .before .before .before .before .before .before .before .before .before .before .run-plain .ensures in
-    let o = outcome (a .book .now) (a .budget) (a .types .now) (a .edges .now) (replicate 524288 0) in
-    let z = plainly (a .book .now) (a .budget) (a .types .now) (a .edges .now) (a .rows .now) (replicate 524288 0) (length-replicate {0} {A = ℕ} 524288 0) in
+    let o = outcome (a .book .now) (a .budget) (a .types .now) (a .edges .now) (e .list) in
+    let z = plainly (a .book .now) (a .budget) (a .types .now) (a .edges .now) (a .rows .now) (e .list) (e .room) in
     let g = c .before .before .before .before .before .end3 .given in
-    rw (c .before .before .before .number2 .ensures) (ran-of (a .book .now) (a .budget) (a .types .now) (a .edges .now) (a .rows .now) o _ (z (Finished (g .0 .0) (g .0 .1 .0) (g .0 .1 .1 .0)) (sym (e .0) ∙ ap endOf (g .1))) (e .1 .0))
+    rw (c .before .before .before .number2 .ensures) (ran-of (a .book .now) (a .budget) (a .types .now) (a .edges .now) (a .rows .now) o _ (z (Finished (g .0 .0) (g .0 .1 .0) (g .0 .1 .1 .0)) (sym (e .ends) ∙ ap endOf (g .1))) (e .types))
 
 same-length : tie.Need-same-length
 same-length c = search needs
@@ -73,10 +73,10 @@ returns : tie.Need-returns
 returns c =
     let a = c .before .before .before .before .before .before .before .before .before .before .before .before .before .before .args in
     let e = c .before .before .before .before .before .before .before .run-plain .ensures in
-    let o = outcome (a .book .now) (a .budget) (a .types .now) (a .edges .now) (replicate 524288 0) in
-    let z = plainly (a .book .now) (a .budget) (a .types .now) (a .edges .now) (a .rows .now) (replicate 524288 0) (length-replicate {0} {A = ℕ} 524288 0) in
+    let o = outcome (a .book .now) (a .budget) (a .types .now) (a .edges .now) (e .list) in
+    let z = plainly (a .book .now) (a .budget) (a .types .now) (a .edges .now) (a .rows .now) (e .list) (e .room) in
     let g = c .before .end .given in
-    run-early (a .book .now) (a .budget) (a .types .now) (a .edges .now) (a .rows .now) o (g .0 .0) (z (Refused (g .0 .0)) (sym (e .0) ∙ ap endOf (g .1))) (e .1 .0) (e .1 .1)
+    run-early (a .book .now) (a .budget) (a .types .now) (a .edges .now) (a .rows .now) o (g .0 .0) (z (Refused (g .0 .0)) (sym (e .ends) ∙ ap endOf (g .1))) (e .types) (e .edges)
 
 same-length-3 : tie.Need-same-length-3
 same-length-3 c = search needs
@@ -88,9 +88,9 @@ returns-2 : tie.Need-returns-2
 returns-2 c =
     let a = c .before .before .before .before .before .before .before .before .before .before .before .before .before .args in
     let e = c .before .before .before .before .before .before .run-plain .ensures in
-    let o = outcome (a .book .now) (a .budget) (a .types .now) (a .edges .now) (replicate 524288 0) in
-    let z = plainly (a .book .now) (a .budget) (a .types .now) (a .edges .now) (a .rows .now) (replicate 524288 0) (length-replicate {0} {A = ℕ} 524288 0) in
-    run-spent (a .book .now) (a .budget) (a .types .now) (a .edges .now) (a .rows .now) o (z Spent (sym (e .0) ∙ ap endOf (c .enum-told .given .1))) (e .1 .0) (e .1 .1)
+    let o = outcome (a .book .now) (a .budget) (a .types .now) (a .edges .now) (e .list) in
+    let z = plainly (a .book .now) (a .budget) (a .types .now) (a .edges .now) (a .rows .now) (e .list) (e .room) in
+    run-spent (a .book .now) (a .budget) (a .types .now) (a .edges .now) (a .rows .now) o (z Spent (sym (e .ends) ∙ ap endOf (c .enum-told .given .1))) (e .types) (e .edges)
 
 same-length-5 : tie.Need-same-length-5
 same-length-5 c = search needs
@@ -105,10 +105,10 @@ returns-3 : tie.Need-returns-3
 returns-3 c =
     let a = c .before .before .before .before .before .before .before .before .before .before .before .before .before .before .before .before .before .before .before .before .before .before .before .before .before .args in
     let e = c .before .before .before .before .before .before .before .before .before .before .before .before .before .before .before .before .before .before .run-plain .ensures in
-    let o = outcome (a .book .now) (a .budget) (a .types .now) (a .edges .now) (replicate 524288 0) in
-    let z = plainly (a .book .now) (a .budget) (a .types .now) (a .edges .now) (a .rows .now) (replicate 524288 0) (length-replicate {0} {A = ℕ} 524288 0) in
+    let o = outcome (a .book .now) (a .budget) (a .types .now) (a .edges .now) (e .list) in
+    let z = plainly (a .book .now) (a .budget) (a .types .now) (a .edges .now) (a .rows .now) (e .list) (e .room) in
     let g = c .before .before .before .before .before .before .before .before .before .before .before .before .end2 .given in
-    run-rows (a .book .now) (a .budget) (a .types .now) (a .edges .now) (a .rows .now) o _ (z (Clash (g .0 .0) (g .0 .1 .0)) (sym (e .0) ∙ ap endOf (g .1))) (e .1 .0) (e .1 .1) (rw (c .before .before .before .before .before .before .before .before .before .before .number .ensures) at (c .before .before .before .before .before .before .run-listed .ensures))
+    run-rows (a .book .now) (a .budget) (a .types .now) (a .edges .now) (a .rows .now) o _ (z (Clash (g .0 .0) (g .0 .1 .0)) (sym (e .ends) ∙ ap endOf (g .1))) (e .types) (e .edges) (rw (c .before .before .before .before .before .before .before .before .before .before .number .ensures) at (c .before .before .before .before .before .before .run-listed .ensures))
 
 same-length-8 : tie.Need-same-length-8
 same-length-8 c = search needs
@@ -123,10 +123,10 @@ returns-4 : tie.Need-returns-4
 returns-4 c =
     let a = c .before .before .before .before .before .before .before .before .before .before .before .before .before .before .before .before .before .before .before .before .before .before .before .before .before .args in
     let e = c .before .before .before .before .before .before .before .before .before .before .before .before .before .before .before .before .before .before .run-plain .ensures in
-    let o = outcome (a .book .now) (a .budget) (a .types .now) (a .edges .now) (replicate 524288 0) in
-    let z = plainly (a .book .now) (a .budget) (a .types .now) (a .edges .now) (a .rows .now) (replicate 524288 0) (length-replicate {0} {A = ℕ} 524288 0) in
+    let o = outcome (a .book .now) (a .budget) (a .types .now) (a .edges .now) (e .list) in
+    let z = plainly (a .book .now) (a .budget) (a .types .now) (a .edges .now) (a .rows .now) (e .list) (e .room) in
     let g = c .before .before .before .before .before .before .before .before .before .before .before .before .end3 .given in
-    run-rows (a .book .now) (a .budget) (a .types .now) (a .edges .now) (a .rows .now) o _ (z (Finished (g .0 .0) (g .0 .1 .0) (g .0 .1 .1 .0)) (sym (e .0) ∙ ap endOf (g .1))) (e .1 .0) (e .1 .1) (rw (c .before .before .before .before .before .before .before .before .before .before .number2 .ensures) at (c .before .before .before .before .before .before .run-listed2 .ensures))
+    run-rows (a .book .now) (a .budget) (a .types .now) (a .edges .now) (a .rows .now) o _ (z (Finished (g .0 .0) (g .0 .1 .0) (g .0 .1 .1 .0)) (sym (e .ends) ∙ ap endOf (g .1))) (e .types) (e .edges) (rw (c .before .before .before .before .before .before .before .before .before .before .number2 .ensures) at (c .before .before .before .before .before .before .run-listed2 .ensures))
 
 pub saturate-rows-spec : {M : Type 1} → statement M
 saturate-rows-spec =
