@@ -50,7 +50,8 @@ extern "C" {
  * Returns
  *   ZAMOLUVEL_FINISHED     each list has its rows in ascending order from the first entry on, and 0 after them;
  *                          the three counts are the numbers of rows
- *   ZAMOLUVEL_CLASH        no world fits the book; type and edge counts; every entry of every list is 0
+ *   ZAMOLUVEL_CLASH        no world fits the book, as types clash or a statement denies what is concluded; type and edge
+ *                          counts; every entry of every list is 0
  *   ZAMOLUVEL_SPENT        there are more facts than the budget; every entry of every list is 0
  *   ZAMOLUVEL_REFUSED + n  refused by number: 1 the budget, 2 the edge list, 3 the type list, 4 to 10 and 16 the book (5
  *                          also for a written source 0, first day 0 or last day 65,535, 9 also for a source above
@@ -220,7 +221,9 @@ uint32_t zamoluvel_figure(const uint8_t *book, size_t book_len, uint32_t *needed
  * is accepted exactly where it is laid out so and its fact follows by one use of the rule from the statement and the facts of
  * the rows that it names, in any order, individuals matched by number; the told-same classes, and for a clash all statements,
  * count as known. Rule 7 joins two fillers of one subject, from two edges. Rule 6 names no statement, and for each individual
- * that it changes to one outside its told-same class the joining row of the two. Rule 8 names a statement of the book or none.
+ * that it changes to one outside its told-same class the joining row of the two. Rule 8 names a statement of the book or none;
+ * a clash rests on types of one individual, or on what some statement denies: an edge by its row, two individuals by the
+ * joining row of the two, and by no row where they are one number or told to be the same.
  * An incomplete last row is not accepted. Each row that stands has its fact in the smallest sets of the book, a joining row
  * that stands is a same pair, and a clash row that stands means that the book clashes.
  *
@@ -257,14 +260,14 @@ uint32_t zamoluvel_saturate_rows(const uint8_t *book, size_t book_len, uint64_t 
                                  uint32_t *edge_count, uint32_t *pair_count);
 
 /* A book of the list of every small book: one class, one role, two individuals, the concept Atomic 0 and at most two
- * statements, none with a source or days. There are 1 + 61 + 3,721 of them, fewer statements first, then by their bytes.
+ * statements, none with a source or days. There are 1 + 73 + 5,329 of them, fewer statements first, then by their bytes.
  *
  *   position      which one, counted from 0; any number
  *   out, out_len  the lent bytes, any number of them; 37 are enough for every small book. Where there are none, out
  *                 may be any pointer that is not null.
  *
  * Returns the length of the book in bytes, 13 to 37; or 0 where there is none, as the position is past the last
- * (3,782). The book stands at the front of the lent bytes if all of it fits, that is, if the returned length is at
+ * (5,402). The book stands at the front of the lent bytes if all of it fits, that is, if the returned length is at
  * most out_len; lent bytes behind it keep their values. If it does not fit, or there is none, all keep theirs.
  */
 size_t zamoluvel_small_book(uint64_t position, uint8_t *out, size_t out_len);

@@ -258,6 +258,23 @@ def bars():
     b = Register(0, 1, 5).tell(f.SAME, 2, 3).tell(f.FUNCTIONAL, P).tell(f.ROLE_ASSERTION, P, 0, 1).tell(f.ROLE_ASSERTION, P, 0, 2)
     row('p functional, p(0,1), p(0,2), 2 same as 3: one class of told and found', b, 'finished 0 3 3', edges=[(0, 0, 1), (0, 0, 2), (0, 0, 3)], pairs=[(1, 2), (1, 3), (2, 3)], budget=3)
 
+    # denied
+    b = Register(0, 0, 2).tell(f.DIFFERENT, 1, 1)
+    row('1 different from 1: clash', b, 'clash 0 0')
+    b = Register(0, 0, 3).tell(f.SAME, 0, 1).tell(f.SAME, 2, 1).tell(f.DIFFERENT, 2, 0)
+    row('0, 1 and 2 the same, 2 different from 0: clash', b, 'clash 0 0')
+    b = Register(0, 0, 3).tell(f.SAME, 0, 1).tell(f.DIFFERENT, 2, 0)
+    row('0 same as 1, 2 different from 0: finished', b, 'finished 0 0 1', pairs=[(0, 1)])
+    b = Register(0, 1, 3).tell(f.FUNCTIONAL, P).tell(f.ROLE_ASSERTION, P, 0, 1).tell(f.ROLE_ASSERTION, P, 0, 2).tell(f.DIFFERENT, 1, 2)
+    row('two fillers of a functional role that are different: clash', b, 'clash 0 2')
+    row('the same with a budget of 1: spent before clash', b, 'spent', budget=1)
+    b = Register(0, 1, 2).tell(f.ROLE_ASSERTION, P, 0, 1).tell(f.DENIAL, P_INV, 1, 0)
+    row('p(0,1), and the inverse of p denied from 1 to 0: clash', b, 'clash 0 1')
+    b = Register(0, 1, 2).tell(f.ROLE_ASSERTION, P, 0, 1).tell(f.DENIAL, P, 1, 0)
+    row('p(0,1), and p denied from 1 to 0: finished', b, 'finished 0 1 0', edges=[(0, 0, 1)])
+    b = Register(0, 1, 3).tell(f.SAME, 1, 2).tell(f.ROLE_ASSERTION, P, 0, 1).tell(f.DENIAL, P, 0, 2)
+    row('p(0,1), 1 same as 2, and p denied from 0 to 2: clash', b, 'clash 0 2')
+
     # clash
     b = Register(1, 0, 1)
     a, = b.classes(1)
@@ -312,6 +329,7 @@ def bars():
     told = b.both(b.both(a), top)
     b.tell(f.SUB_CLASS, a, right).tell(f.EQUIVALENT, x, c).tell(f.DISJOINT, a, d).tell(f.SUB_ROLE, P_INV, Q).tell(f.DOMAIN, P_INV, b.both(b.both(c)))
     b.tell(f.FUNCTIONAL, P).tell(f.SAME, 0, 1).tell(f.CLASS_ASSERTION, told, 0).tell(f.ROLE_ASSERTION, P, 0, 2).tell(f.ROLE_ASSERTION, P, 1, 3)
+    b.tell(f.DIFFERENT, 0, 2).tell(f.DENIAL, P, 2, 0)
     ones, others = (0, 1), (2, 3)
     row('a plain book', b, 'finished 10 12 2', types=[(i, k) for i in ones for k in range(3)] + [(i, k) for i in others for k in (1, 2)],
         edges=[(0, i, j) for i in ones for j in others] + [(1, i, j) for i in ones for j in others] + [(1, j, i) for j in others for i in ones],
@@ -355,6 +373,9 @@ def readings():
     b.tell(f.DISJOINT, a, c, source=1).tell(f.CLASS_ASSERTION, a, 0).tell(f.CLASS_ASSERTION, c, 0)
     row('A and B disjoint by source 1, 0:A, 0:B: clash for reader 0', b, 'clash 2 0', (0, own))
     row('and none for reader 1', b, 'finished 2 0 0', (1, own), types=[(0, 0), (0, 1)])
+    b = Register(0, 1, 2).tell(f.ROLE_ASSERTION, P, 0, 1).tell(f.DENIAL, P, 0, 1, source=1)
+    row('p(0,1), denied by source 1: clash for reader 0', b, 'clash 0 1', (0, own))
+    row('and none for reader 1, by whom it is not read', b, 'finished 0 1 0', (1, own), edges=[(0, 0, 1)])
     b = Register(1, 1, 3)
     a, = b.classes(1)
     b.tell(f.FUNCTIONAL, P, source=1).tell(f.ROLE_ASSERTION, P, 0, 1).tell(f.ROLE_ASSERTION, P, 0, 2).tell(f.CLASS_ASSERTION, a, 1)

@@ -15,7 +15,7 @@ def concepts(rng, classes, roles, individuals, atomics, others):
 
 def statement(rng, roles, concept_count, individuals, kinds=tuple(f.STATEMENT_MAPS)):
     """One of these kinds, as far as the counts allow them; roles in both polarities."""
-    kind = rng.choice([kind for kind in kinds if individuals or kind not in (f.SAME, f.CLASS_ASSERTION, f.ROLE_ASSERTION)])
+    kind = rng.choice([kind for kind in kinds if individuals or kind not in (f.SAME, f.CLASS_ASSERTION, f.ROLE_ASSERTION, f.DIFFERENT, f.DENIAL)])
     map_ = rng.choice(f.STATEMENT_MAPS[kind])
     role = 2 * roles
     limits = (role, role, role, role, concept_count, concept_count, individuals, individuals)

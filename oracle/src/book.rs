@@ -36,11 +36,13 @@ pub const RANGE: u8 = 11;
 pub const SAME: u8 = 12;
 pub const CLASS_ASSERTION: u8 = 13;
 pub const ROLE_ASSERTION: u8 = 14;
-/// The kinds of statements.
-pub const KINDS: std::ops::RangeInclusive<u8> = SUB_CLASS..=ROLE_ASSERTION;
+pub const DIFFERENT: u8 = 15;
+pub const DENIAL: u8 = 16;
+/// The kinds of statements; the Rust has none beyond the assertion of a role.
+pub const KINDS: std::ops::RangeInclusive<u8> = SUB_CLASS..=DENIAL;
 /// Of each kind of statement, the first of its maps; a path's further maps are 0B and 0F.
-const STATEMENT_MAPS: [u16; 15] =
-    [0, 0x30, 0x30, 0x30, 0x03, 0x09, 0x01, 0x01, 0x01, 0x01, 0x11, 0x11, 0xC0, 0x50, 0xC1];
+const STATEMENT_MAPS: [u16; 17] =
+    [0, 0x30, 0x30, 0x30, 0x03, 0x09, 0x01, 0x01, 0x01, 0x01, 0x11, 0x11, 0xC0, 0x50, 0xC1, 0xC0, 0xC1];
 
 /// The fields stand in the order of their bits; those of an And or Or are its parts.
 #[derive(Clone, PartialEq, Eq, Debug)]
@@ -281,6 +283,11 @@ impl Book {
     pub fn bound(&self) -> usize {
         let [classes, roles, individuals] = self.counts;
         (individuals * classes + roles * individuals * individuals).min(1_000_000)
+    }
+
+    /// Whether it has a statement of a kind that the Rust has not.
+    pub fn denies(&self) -> bool {
+        self.statements.iter().any(|s| s.kind > ROLE_ASSERTION)
     }
 
     /// Adds the concept, or finds it.

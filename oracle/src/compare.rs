@@ -23,7 +23,7 @@ pub enum Verdict {
     Partly {
         alike: bool,
     },
-    /// Ours was spent or refused by 11.
+    /// Ours was spent or refused by 11, or the book has a kind that the Rust has not.
     Not,
     Disagreement(String),
 }
@@ -115,6 +115,9 @@ pub fn compare(book: &Book, ours: &End) -> Verdict {
         End::Spent | End::Refused(11) => return Verdict::Not,
         End::Refused(n) => return Verdict::Disagreement(format!("ours refuses an accepted book by {n}")),
         _ => {}
+    }
+    if book.denies() {
+        return Verdict::Not;
     }
     let answer = rust::run(book);
     let full = fully(ours, &answer);

@@ -22,7 +22,7 @@
 //!         runs our side on the recorded books and compares
 
 use oracle::book::Book;
-use oracle::compare::{self, compare, Verdict, RULES};
+use oracle::compare::{self, compare, Rule, Verdict, RULES};
 use oracle::generate;
 use oracle::ours::{Library, Server, Side};
 use oracle::profile::{Profile, PROFILES};
@@ -228,7 +228,8 @@ fn run_small(words: &[String]) -> Result<ExitCode, String> {
 
 fn run_record_small(file: &str) -> Result<ExitCode, String> {
     let records = small::records();
-    let data: Vec<u8> = records.iter().flat_map(|&(rule, answer)| [rule as u8 + 1, answer]).collect();
+    let bytes = |record: &Option<(Rule, u8)>| record.map_or([0, 0], |(rule, answer)| [rule as u8 + 1, answer]);
+    let data: Vec<u8> = records.iter().flat_map(bytes).collect();
     std::fs::write(file, &data).map_err(|e| format!("{file}: {e}"))?;
     println!("{} records, {} bytes", records.len(), data.len());
     Ok(ExitCode::SUCCESS)

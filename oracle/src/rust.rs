@@ -144,6 +144,7 @@ fn as_written(book: &Book) -> InternalOntology {
             book::RANGE => Axiom::ObjectPropertyRange { role: role(f[0]), range: id(f[1]) },
             book::SAME => Axiom::SameIndividual(vec![individual(f[0]), individual(f[1])]),
             book::CLASS_ASSERTION => Axiom::ClassAssertion { class: id(f[0]), individual: individual(f[1]) },
+            book::DIFFERENT | book::DENIAL => unreachable!("the Rust has no such kind"),
             _ => {
                 Axiom::ObjectPropertyAssertion { role: role(f[0]), subject: individual(f[1]), object: individual(f[2]) }
             }

@@ -59,11 +59,14 @@ fn packed(answer: &Answer) -> u8 {
     edges | pairs | (answer.types as u8) << 5
 }
 
-/// The rule of comparison and the answer, a byte each, for every small book in its order.
-pub fn records() -> Vec<(Rule, u8)> {
+/// The rule of comparison and the answer, a byte each, for every small book in its order; none for those with a kind that the
+/// Rust has not.
+pub fn records() -> Vec<Option<(Rule, u8)>> {
     let record = |book: &Book| {
-        let rule = rule(book);
-        (rule, packed(&answer(book, rule)))
+        (!book.denies()).then(|| {
+            let rule = rule(book);
+            (rule, packed(&answer(book, rule)))
+        })
     };
     books().iter().map(record).collect()
 }

@@ -5,7 +5,7 @@ use crate::book::{Book, Sort, ATOMIC, BOT, LAST_OF_ALL, MAX, MIN, NOMINAL, TOP};
 const CONCEPT_NAMES: [&str; 12] =
     ["Top", "Bot", "Atomic", "Nominal", "Self", "Not", "And", "Or", "Some", "All", "Min", "Max"];
 
-const STATEMENT_NAMES: [&str; 15] = [
+const STATEMENT_NAMES: [&str; 17] = [
     "",
     "SubClassOf",
     "EquivalentClasses",
@@ -21,6 +21,8 @@ const STATEMENT_NAMES: [&str; 15] = [
     "SameIndividual",
     "ClassAssertion",
     "ObjectPropertyAssertion",
+    "DifferentIndividuals",
+    "NegativeObjectPropertyAssertion",
 ];
 
 /// Shared parts make a tree of words as large as they like; deeper ones are left out.

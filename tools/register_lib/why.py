@@ -18,6 +18,7 @@ RULES = {
 }
 
 TOLD = 'told to be the same individual'
+DENIED = 'an axiom denies it'
 
 # its number among those shown, the fact as an axiom, the rule in words, the numbers of the steps that it rests on, and the
 # register's axioms that it used, as (line, axiom)
@@ -78,7 +79,7 @@ def linked(book, a, b):
 def clashing(book, facts):
     """Statements without any of which the facts would not clash."""
     kept = [k for k, (kind, *_) in enumerate(book.statements)
-            if kind in (f.DISJOINT, f.FUNCTIONAL, f.INVERSE_FUNCTIONAL, f.SUB_CLASS, f.EQUIVALENT)]
+            if kind in (f.DISJOINT, f.FUNCTIONAL, f.INVERSE_FUNCTIONAL, f.SUB_CLASS, f.EQUIVALENT, f.SAME, f.DIFFERENT, f.DENIAL)]
 
     def clash(numbers):
         part = copy.copy(book)
@@ -145,9 +146,12 @@ def steps(packer, source, data, entries, fact=None):
         return way and [Step(1, written(names, fact), TOLD, [], [axiom(k) for k in way])]
     chosen = resting(rows, claims.index(fact or 'clash'))
     number = {k: n for n, k in enumerate(chosen, 1)}
-    return [Step(number[k], written(names, claims[k]), RULES[rows[k][0]],
-                 sorted({number[x] for x in rows[k][2:5] if x != derivation.NONE}), [axiom(n) for n in used(book, checker, rows, k)])
-            for k in chosen]
+
+    def step(k):
+        by = used(book, checker, rows, k)
+        rule = DENIED if any(book.statements[n][0] in (f.DIFFERENT, f.DENIAL) for n in by) else RULES[rows[k][0]]
+        return Step(number[k], written(names, claims[k]), rule, sorted({number[x] for x in rows[k][2:5] if x != derivation.NONE}), [axiom(n) for n in by])
+    return [step(k) for k in chosen]
 
 
 def by(step):

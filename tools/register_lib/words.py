@@ -17,6 +17,7 @@ STATEMENTS = {
     'FunctionalObjectProperty': (f.FUNCTIONAL, 'R'), 'InverseFunctionalObjectProperty': (f.INVERSE_FUNCTIONAL, 'R'),
     'ObjectPropertyDomain': (f.DOMAIN, 'RC'), 'ObjectPropertyRange': (f.RANGE, 'RC'), 'SameIndividual': (f.SAME, 'I2'),
     'ClassAssertion': (f.CLASS_ASSERTION, 'CI'), 'ObjectPropertyAssertion': (f.ROLE_ASSERTION, 'RII'),
+    'DifferentIndividuals': (f.DIFFERENT, 'I2'), 'NegativeObjectPropertyAssertion': (f.DENIAL, 'RII'),
 }
 CONCEPTS = {
     'ObjectHasSelf': (f.SELF, 'R'), 'ObjectComplementOf': (f.NOT, 'C'), 'ObjectIntersectionOf': (f.AND, 'C*'),
@@ -43,7 +44,7 @@ SILENT = {'Annotation', 'AnnotationAssertion', 'SubAnnotationPropertyOf', 'Annot
 UNHELD = {word: '' for word in (
     'Import DisjointObjectProperties ReflexiveObjectProperty IrreflexiveObjectProperty AsymmetricObjectProperty '
     'SubDataPropertyOf EquivalentDataProperties DisjointDataProperties DataPropertyDomain DataPropertyRange '
-    'FunctionalDataProperty DatatypeDefinition HasKey DifferentIndividuals NegativeObjectPropertyAssertion '
+    'FunctionalDataProperty DatatypeDefinition HasKey '
     'DataPropertyAssertion NegativeDataPropertyAssertion DLSafeRule').split()}
 UNHELD['EquivalentObjectProperties'] = 'SubObjectPropertyOf in both directions says the same'
 UNHELD['DisjointUnion'] = 'EquivalentClasses with ObjectUnionOf, and DisjointClasses, say the same'

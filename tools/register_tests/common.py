@@ -60,7 +60,8 @@ def some_book(rng):
     limits['C'] = len(concepts)
     forms = [(f.SUB_CLASS, 'CC'), (f.EQUIVALENT, 'CC'), (f.DISJOINT, 'CC'), (f.INVERSE, 'RR'), (f.SUB_ROLE, 'RR'), (f.SUB_ROLE, 'RRR'),
              (f.SUB_ROLE, 'RRRR'), (f.TRANSITIVE, 'R'), (f.SYMMETRIC, 'R'), (f.FUNCTIONAL, 'R'), (f.INVERSE_FUNCTIONAL, 'R'),
-             (f.DOMAIN, 'RC'), (f.RANGE, 'RC'), (f.SAME, 'II'), (f.CLASS_ASSERTION, 'CI'), (f.ROLE_ASSERTION, 'RII'), (f.ROLE_ASSERTION, 'RII')]
+             (f.DOMAIN, 'RC'), (f.RANGE, 'RC'), (f.SAME, 'II'), (f.CLASS_ASSERTION, 'CI'), (f.ROLE_ASSERTION, 'RII'), (f.ROLE_ASSERTION, 'RII'),
+             (f.DIFFERENT, 'II'), (f.DENIAL, 'RII')]
     if limits['C'] or counts[1] or counts[2]:
         statements = [record(forms) for _ in range(rng.randint(0, 16))]
     sources = rng.choice([[0], [0, 1, 2], [0, 7, 512, 1023]])

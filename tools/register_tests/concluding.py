@@ -11,7 +11,7 @@ from register_lib import command, conclusions, library
 
 from .common import EXAMPLES, HEAD, PROGRAM, ROOT, STAND_IN, WORKED, FileCase, packed, register, some_book
 
-STATUS = {'clash': conclusions.CLASH, 'sessions': conclusions.CLASH}  # of an example; finished where it is not listed
+STATUS = {'clash': conclusions.CLASH, 'mistaken': conclusions.CLASH, 'sessions': conclusions.CLASH}  # of an example; finished where it is not listed
 WORKED_OUTPUT = '''finished 3 12 3
 t 1 0
 t 2 0

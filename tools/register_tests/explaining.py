@@ -60,6 +60,16 @@ class Steps(unittest.TestCase):
         told = steps(HEAD + 'SameIndividual(:x :y)\nSameIndividual(:z :y)\n)', 'SameIndividual(:z :x)')
         self.assertEqual([(step.fact, [line for line, _ in step.axioms]) for step in told], [('SameIndividual(:x :z)', [3, 4])])
 
+    def test_what_is_denied(self):
+        edges = 'ObjectPropertyAssertion(:p :x :y)\nObjectPropertyAssertion(:p :x :z)\n'
+        joined = steps(HEAD + 'FunctionalObjectProperty(:p)\n' + edges + 'DifferentIndividuals(:z :y)\n)')[-2:]
+        self.assertEqual([step.fact for step in joined], ['SameIndividual(:y :z)', 'no world fits'])
+        self.assertEqual((joined[1].rule, joined[1].axioms), (why.DENIED, [(6, 'DifferentIndividuals(:z :y)')]))
+        told = steps(HEAD + 'SameIndividual(:x :y)\nSameIndividual(:y :z)\nDifferentIndividuals(:x :z)\n)')
+        self.assertEqual([(step.fact, step.premises, [line for line, _ in step.axioms]) for step in told], [('no world fits', [], [3, 4, 5])])
+        linked = steps(HEAD + edges + 'NegativeObjectPropertyAssertion(ObjectInverseOf(:p) :z :x)\n)')
+        self.assertEqual([(step.fact, [line for line, _ in step.axioms]) for step in linked], [('ObjectPropertyAssertion(:p :x :z)', [4]), ('no world fits', [5])])
+
     def test_what_is_not_concluded(self):
         self.assertIsNone(steps(HEAD + 'ClassAssertion(:A :x)\nClassAssertion(:B :y)\n)', 'ClassAssertion(:B :x)'))
         self.assertIsNone(steps(HEAD + 'ClassAssertion(:A :x)\n)'))

@@ -102,7 +102,7 @@ class Messages(FileCase):
         self.assertIn('20,001 concepts, and a book has at most 4,096', err)
 
     def test_left_out(self):
-        text = '''DifferentIndividuals(:a :b)
+        text = '''AsymmetricObjectProperty(:r)
   SubClassOf(:A DataHasValue(:hz "440"^^xsd:int))
   SubClassOf(:A ObjectIntersectionOf(:B DataHasValue(:hz "441"^^xsd:int)))
   SubObjectPropertyOf(ObjectPropertyChain(:r :r :r :r) :r)
@@ -114,7 +114,7 @@ class Messages(FileCase):
   Declaration(ObjectProperty(<_:genid7>)) SubObjectPropertyOf(:r <_:genid7>)
   SubClassOf(:A :B)'''
         self.assertEqual(self.left_out(text), [
-            '1 DifferentIndividuals, first at line 3, column 1',
+            '1 AsymmetricObjectProperty, first at line 3, column 1',
             '2 SubClassOf with DataHasValue, first at line 4, column 3',
             '1 SubObjectPropertyOf with a chain of 4 roles, first at line 6, column 3',
             '1 EquivalentObjectProperties (SubObjectPropertyOf in both directions says the same), first at line 7, column 3',
@@ -123,7 +123,7 @@ class Messages(FileCase):
             '1 SubClassOf with ObjectUnionOf of more than 255 parts, first at line 10, column 3',
             '1 SubClassOf with what an OWL editor could not read, first at line 11, column 68',
             '1 SubObjectPropertyOf with what an OWL editor could not read, first at line 12, column 43'])
-        status, err = self.packed(HEAD + text.replace('DifferentIndividuals(:a :b)', '') + ')', '--strict')
+        status, err = self.packed(HEAD + text.replace('AsymmetricObjectProperty(:r)', '') + ')', '--strict')
         self.assertEqual(status, 1)
         self.assertTrue(err.startswith('file.ofn: line 4, column 3: a book cannot hold this: SubClassOf with DataHasValue\n'), err)
 

@@ -23,8 +23,9 @@ class Packing(unittest.TestCase):
             SameIndividual(:b :a) ClassAssertion(ObjectIntersectionOf(:B :A) :a) ObjectPropertyAssertion(ObjectInverseOf(:q) :b :a)
             SubClassOf(ObjectUnionOf(:A :B :A) ObjectHasSelf(:q)) SubClassOf(ObjectSomeValuesFrom(:p :B) ObjectAllValuesFrom(:q :A))
             SubClassOf(ObjectMinCardinality(3 :p :A) ObjectMaxCardinality(4294967295 ObjectInverseOf(:q) :B))
-            SubClassOf(ObjectIntersectionOf() ObjectUnionOf(:B))''')
-        self.assertEqual(book.counts, [2, 2, 2, 15, 20])
+            SubClassOf(ObjectIntersectionOf() ObjectUnionOf(:B))
+            DifferentIndividuals(:a :b) NegativeObjectPropertyAssertion(ObjectInverseOf(:q) :b :a)''')
+        self.assertEqual(book.counts, [2, 2, 2, 15, 22])
         self.assertEqual(book.concepts, [
             (f.ATOMIC, [0]), (f.BOT, []), (f.TOP, []), (f.ATOMIC, [1]), (f.NOT, [0]), (f.NOMINAL, [0]), (f.AND, [3, 0]), (f.OR, [0, 3, 0]),
             (f.SELF, [2]), (f.SOME, [0, 3]), (f.ALL, [2, 0]), (f.MIN, [0, 0, 3]), (f.MAX, [3, 3, 4294967295]), (f.AND, []), (f.OR, [3])])
@@ -32,20 +33,23 @@ class Packing(unittest.TestCase):
             (f.SUB_CLASS, [0, 1]), (f.EQUIVALENT, [0, 2]), (f.DISJOINT, [0, 3]), (f.INVERSE, [0, 3]), (f.SUB_ROLE, [0, 2]),
             (f.SUB_ROLE, [0, 2, 3]), (f.SUB_ROLE, [2, 1, 0, 2]), (f.TRANSITIVE, [0]), (f.SYMMETRIC, [2]), (f.FUNCTIONAL, [1]),
             (f.INVERSE_FUNCTIONAL, [2]), (f.DOMAIN, [0, 4]), (f.RANGE, [2, 5]), (f.SAME, [0, 1]), (f.CLASS_ASSERTION, [6, 1]),
-            (f.ROLE_ASSERTION, [3, 0, 1]), (f.SUB_CLASS, [7, 8]), (f.SUB_CLASS, [9, 10]), (f.SUB_CLASS, [11, 12]), (f.SUB_CLASS, [13, 14])])
+            (f.ROLE_ASSERTION, [3, 0, 1]), (f.SUB_CLASS, [7, 8]), (f.SUB_CLASS, [9, 10]), (f.SUB_CLASS, [11, 12]), (f.SUB_CLASS, [13, 14]),
+            (f.DIFFERENT, [1, 0]), (f.DENIAL, [3, 0, 1])])
 
     def test_pairs(self):
         same = self.book('SameIndividual(:a :b :c :d)').statements
         self.assertEqual([v for _, _, v in same], [[0, 1], [1, 2], [2, 3]])
         for word in ('EquivalentClasses', 'DisjointClasses'):
             self.assertEqual([v for _, _, v in self.book(f'{word}(:A :B :C)').statements], [[0, 1], [0, 2], [1, 2]])
+        self.assertEqual([v for _, _, v in self.book('DifferentIndividuals(:a :b :c)').statements], [[0, 1], [0, 2], [1, 2]])
 
     def test_repeated(self):
         """A repeated member of a list counts once, an equal expression too; one that is alone is paired with itself."""
         rows = [('DisjointClasses(:A :A :B)', [[0, 1]]), ('DisjointClasses(:A :B :A :C :B)', [[0, 1], [0, 2], [1, 2]]),
                 ('EquivalentClasses(:A :B :B)', [[0, 1]]), ('SameIndividual(:a :a :b :a :c)', [[0, 1], [1, 2]]),
                 ('DisjointClasses(ObjectUnionOf(:A :B) :C ObjectUnionOf(:A :B))', [[2, 3]]),
-                ('DisjointClasses(:A :A)', [[0, 0]]), ('EquivalentClasses(:A :A :A)', [[0, 0]]), ('SameIndividual(:a :a)', [[0, 0]])]
+                ('DisjointClasses(:A :A)', [[0, 0]]), ('EquivalentClasses(:A :A :A)', [[0, 0]]), ('SameIndividual(:a :a)', [[0, 0]]),
+                ('DifferentIndividuals(:a :b :a)', [[0, 1]]), ('DifferentIndividuals(:a :a)', [[0, 0]])]
         for axiom, pairs in rows:
             self.assertEqual([v for _, _, v in self.book(axiom).statements], pairs, axiom)
         # parts of a class expression stay as they are written: they conclude the same
@@ -101,9 +105,9 @@ AXIOMS = [
     ('DatatypeDefinition(:D DatatypeRestriction(xsd:int xsd:minInclusive "20"^^xsd:int xsd:maxInclusive "20000"^^<urn:t>))', 'DatatypeDefinition'),
     ('HasKey(:A () (:d))', 'HasKey'), ('HasKey(ObjectIntersectionOf(:A :B) (:p ObjectInverseOf(:q)) (:d :e))', 'HasKey'),
     ('HasKey(:A (:p) ())', 'HasKey'), ('HasKey(:A()())', 'HasKey'),
-    ('SameIndividual(:a _:x)', HELD), ('DifferentIndividuals(:a _:x :b)', 'DifferentIndividuals'), ('ClassAssertion(:A _:x)', HELD),
+    ('SameIndividual(:a _:x)', HELD), ('DifferentIndividuals(:a _:x)', HELD), ('ClassAssertion(:A _:x)', HELD),
     ('ObjectPropertyAssertion(ObjectInverseOf(:p) _:x :a)', HELD),
-    ('NegativeObjectPropertyAssertion(:p :a :b)', 'NegativeObjectPropertyAssertion'),
+    ('NegativeObjectPropertyAssertion(:p :a :b)', HELD), ('NegativeObjectPropertyAssertion(ObjectInverseOf(:p) _:x :a)', HELD),
     ('DataPropertyAssertion(:d :a "440"^^xsd:int)', 'DataPropertyAssertion'),
     ('NegativeDataPropertyAssertion(:d _:x "a \\"b\\" \\\\"@en-GB)', 'NegativeDataPropertyAssertion'),
     ('AnnotationAssertion(:n :a "x")', PASSED_OVER), ('AnnotationAssertion(:n _:x <urn:x>)', PASSED_OVER),

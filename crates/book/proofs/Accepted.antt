@@ -13,7 +13,7 @@ use Rattle.book.specs.declared.concept.ConceptExpr.{ConceptExpr}
 use Rattle.book.specs.declared.concept.ConceptExpr.the-variants.{Top, Bot, Atomic, Nominal, SelfRestriction, Not, And, Or, Some, All, Min, Max}
 use Rattle.book.specs.declared.statement.Axiom.{Axiom}
 use Rattle.book.specs.declared.statement.SubRolePath.the-variants.{One, Two, Three}
-use Rattle.book.specs.declared.statement.Axiom.the-variants.{SubClassOf, EquivalentClasses, DisjointClasses, InverseObjectProperties, SubObjectPropertyOf, TransitiveRole, SymmetricRole, FunctionalRole, InverseFunctionalRole, ObjectPropertyDomain, ObjectPropertyRange, SameIndividual, ClassAssertion, ObjectPropertyAssertion}
+use Rattle.book.specs.declared.statement.Axiom.the-variants.{SubClassOf, EquivalentClasses, DisjointClasses, InverseObjectProperties, SubObjectPropertyOf, TransitiveRole, SymmetricRole, FunctionalRole, InverseFunctionalRole, ObjectPropertyDomain, ObjectPropertyRange, SameIndividual, ClassAssertion, ObjectPropertyAssertion, DifferentIndividuals, NegativeObjectPropertyAssertion}
 use Rattle.book.specs.declared.statement.Statement.{Statement}
 use Rattle.book.specs.declared.check.Checked.{Checked}
 use Rattle.book.specs.declared.check.Checked.the-variants as Checked
@@ -139,6 +139,8 @@ within-same h m (ObjectPropertyRange r c) w = w
 within-same h m (SameIndividual i j) w = w
 within-same h m (ClassAssertion c i) w = w
 within-same h m (ObjectPropertyAssertion r i j) w = w
+within-same h m (DifferentIndividuals i j) w = w
+within-same h m (NegativeObjectPropertyAssertion r i j) w = w
 
 pub record-same : (h : Counts) (m : ℕ) (x : Statement) → StatementWithin h x → StatementWithin (counting h m) x
 record-same h m x w = record { body = within-same h m (x .body) (w .body); source-top = w .source-top; period = w .period; last-top = w .last-top }

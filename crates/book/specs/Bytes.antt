@@ -9,7 +9,7 @@ use Rattle.book.specs.declared.header.Counts.{Counts}
 use Rattle.book.specs.declared.statement.SubRolePath.{SubRolePath}
 use Rattle.book.specs.declared.statement.SubRolePath.the-variants.{One, Two, Three}
 use Rattle.book.specs.declared.statement.Axiom.{Axiom}
-use Rattle.book.specs.declared.statement.Axiom.the-variants.{SubClassOf, EquivalentClasses, DisjointClasses, InverseObjectProperties, SubObjectPropertyOf, TransitiveRole, SymmetricRole, FunctionalRole, InverseFunctionalRole, ObjectPropertyDomain, ObjectPropertyRange, SameIndividual, ClassAssertion, ObjectPropertyAssertion}
+use Rattle.book.specs.declared.statement.Axiom.the-variants.{SubClassOf, EquivalentClasses, DisjointClasses, InverseObjectProperties, SubObjectPropertyOf, TransitiveRole, SymmetricRole, FunctionalRole, InverseFunctionalRole, ObjectPropertyDomain, ObjectPropertyRange, SameIndividual, ClassAssertion, ObjectPropertyAssertion, DifferentIndividuals, NegativeObjectPropertyAssertion}
 use Rattle.book.specs.declared.statement.Statement.{Statement}
 use Rattle.book.specs.declared.role.Role.{Role}
 use Rattle.book.specs.Read.{pick}
@@ -94,6 +94,8 @@ formOf (ObjectPropertyRange r c) = form 11 (role r ∷ gap ∷ gap ∷ gap ∷ p
 formOf (SameIndividual i j) = form 12 (gap ∷ gap ∷ gap ∷ gap ∷ gap ∷ gap ∷ put i ∷ put j ∷ [])
 formOf (ClassAssertion c i) = form 13 (gap ∷ gap ∷ gap ∷ gap ∷ put c ∷ gap ∷ put i ∷ [])
 formOf (ObjectPropertyAssertion r i j) = form 14 (role r ∷ gap ∷ gap ∷ gap ∷ gap ∷ gap ∷ put i ∷ put j ∷ [])
+formOf (DifferentIndividuals i j) = form 15 (gap ∷ gap ∷ gap ∷ gap ∷ gap ∷ gap ∷ put i ∷ put j ∷ [])
+formOf (NegativeObjectPropertyAssertion r i j) = form 16 (role r ∷ gap ∷ gap ∷ gap ∷ gap ∷ gap ∷ put i ∷ put j ∷ [])
 
 -- bit 8 on: the source, the first and the last day
 abbrev pub marks : Statement → List Place

@@ -9,7 +9,7 @@ use Rattle.book.specs.declared.table.Start.{Start}
 use Rattle.book.specs.declared.statement.SubRolePath.{SubRolePath}
 use Rattle.book.specs.declared.statement.SubRolePath.the-variants.{One, Two, Three}
 use Rattle.book.specs.declared.statement.Axiom.{Axiom}
-use Rattle.book.specs.declared.statement.Axiom.the-variants.{SubClassOf, EquivalentClasses, DisjointClasses, InverseObjectProperties, SubObjectPropertyOf, TransitiveRole, SymmetricRole, FunctionalRole, InverseFunctionalRole, ObjectPropertyDomain, ObjectPropertyRange, SameIndividual, ClassAssertion, ObjectPropertyAssertion}
+use Rattle.book.specs.declared.statement.Axiom.the-variants.{SubClassOf, EquivalentClasses, DisjointClasses, InverseObjectProperties, SubObjectPropertyOf, TransitiveRole, SymmetricRole, FunctionalRole, InverseFunctionalRole, ObjectPropertyDomain, ObjectPropertyRange, SameIndividual, ClassAssertion, ObjectPropertyAssertion, DifferentIndividuals, NegativeObjectPropertyAssertion}
 use Rattle.book.specs.declared.statement.Statement.{Statement}
 use Rattle.book.specs.declared.statement.ReadStatement.{ReadStatement}
 use Rattle.book.specs.declared.statement.ReadStatement.the-variants.{Next, Refused}
@@ -25,7 +25,7 @@ unfoldable pub statementStart : Parser Start
 statementStart = do
   kind ← byte
   unless (not (eqb kind 0)) 7
-  unless (ltb kind 15) 7
+  unless (ltb kind 17) 7
   map ← twoBytes
   unless (ltb map 2048) 8
   unless (statementAllows kind (map % 256)) 8
@@ -59,10 +59,10 @@ pathOf map r s t = pick (eqb map 0x09) (One r) (pick (eqb map 0x0B) (Two r s) (T
 abbrev pub roleField : List ℕ → ℕ → Role
 roleField v bit = roleOf (getD v bit 0)
 
-abbrev pub assertion : List ℕ → Axiom
-assertion v = ObjectPropertyAssertion (roleField v 0) (getD v 6 0) (getD v 7 0)
+abbrev pub denial : List ℕ → Axiom
+denial v = NegativeObjectPropertyAssertion (roleField v 0) (getD v 6 0) (getD v 7 0)
 
--- the kinds 1 to 13 in their order (there is no kind 0); 14 is ObjectPropertyAssertion
+-- the kinds 1 to 15 in their order (there is no kind 0); 16 is NegativeObjectPropertyAssertion
 abbrev pub axiomKinds : ℕ → List ℕ → List Axiom
 axiomKinds map v =
     let r = roleField v 0 in
@@ -73,7 +73,7 @@ axiomKinds map v =
     let d = getD v 5 0 in
     let i = getD v 6 0 in
     let j = getD v 7 0 in
-    assertion v
+    denial v
     ∷ SubClassOf c d
     ∷ EquivalentClasses c d
     ∷ DisjointClasses c d
@@ -87,10 +87,12 @@ axiomKinds map v =
     ∷ ObjectPropertyRange r c
     ∷ SameIndividual i j
     ∷ ClassAssertion c i
+    ∷ ObjectPropertyAssertion r i j
+    ∷ DifferentIndividuals i j
     ∷ []
 
 unfoldable pub axiomOf : Start → List ℕ → Axiom
-axiomOf start v = getD (axiomKinds (start .map % 256) v) (start .kind) (assertion v)
+axiomOf start v = getD (axiomKinds (start .map % 256) v) (start .kind) (denial v)
 
 -- the whole record: what it says, whose statement it was, and its period
 abbrev pub statementOf : Start → List ℕ → Statement

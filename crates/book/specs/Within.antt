@@ -10,7 +10,7 @@ use Rattle.book.specs.declared.concept.ConceptExpr.the-variants.{Top, Bo
 use Rattle.book.specs.declared.statement.SubRolePath.{SubRolePath}
 use Rattle.book.specs.declared.statement.SubRolePath.the-variants.{One, Two, Three}
 use Rattle.book.specs.declared.statement.Axiom.{Axiom}
-use Rattle.book.specs.declared.statement.Axiom.the-variants.{SubClassOf, EquivalentClasses, DisjointClasses, InverseObjectProperties, SubObjectPropertyOf, TransitiveRole, SymmetricRole, FunctionalRole, InverseFunctionalRole, ObjectPropertyDomain, ObjectPropertyRange, SameIndividual, ClassAssertion, ObjectPropertyAssertion}
+use Rattle.book.specs.declared.statement.Axiom.the-variants.{SubClassOf, EquivalentClasses, DisjointClasses, InverseObjectProperties, SubObjectPropertyOf, TransitiveRole, SymmetricRole, FunctionalRole, InverseFunctionalRole, ObjectPropertyDomain, ObjectPropertyRange, SameIndividual, ClassAssertion, ObjectPropertyAssertion, DifferentIndividuals, NegativeObjectPropertyAssertion}
 use Rattle.book.specs.declared.statement.Statement.{Statement}
 use Rattle.book.specs.Role.{roleId}
 use Rattle.book.specs.Field.{numberAt}
@@ -63,6 +63,8 @@ Within h (ObjectPropertyRange r c) = RoleWithin h r × (c < h .concepts)
 Within h (SameIndividual i j) = (i < h .individuals) × (j < h .individuals)
 Within h (ClassAssertion c i) = (c < h .concepts) × (i < h .individuals)
 Within h (ObjectPropertyAssertion r i j) = RoleWithin h r × (i < h .individuals) × (j < h .individuals)
+Within h (DifferentIndividuals i j) = (i < h .individuals) × (j < h .individuals)
+Within h (NegativeObjectPropertyAssertion r i j) = RoleWithin h r × (i < h .individuals) × (j < h .individuals)
 
 -- a whole record: what it says keeps to the counts, its source is one of 0 to 1,023, and its period has a day
 pub record StatementWithin (h : Counts) (x : Statement) : Type 0 where

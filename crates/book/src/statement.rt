@@ -59,6 +59,12 @@ pub enum Axiom {
         subject: u32,
         object: u32,
     },
+    DifferentIndividuals(u32, u32),
+    NegativeObjectPropertyAssertion {
+        role: Role,
+        subject: u32,
+        object: u32,
+    },
 }
 
 // A statement record: what it says, whose statement it was (0: the shared book), and the first and the last day on which it is in force.
@@ -84,7 +90,7 @@ fn statement_start(book: &[u8], at: usize) -> ReadStart
             if kind == 0 {
                 return ReadStart::Refused(7);
             }
-            if 15 <= kind {
+            if 17 <= kind {
                 return ReadStart::Refused(7);
             }
             let second = u16_at(book, then);
@@ -148,7 +154,13 @@ fn axiom_of(start: Start, f: Fields) -> Axiom
             class: c,
             individual: i,
         },
-        _ => Axiom::ObjectPropertyAssertion {
+        14 => Axiom::ObjectPropertyAssertion {
+            role: r,
+            subject: i,
+            object: j,
+        },
+        15 => Axiom::DifferentIndividuals(i, j),
+        _ => Axiom::NegativeObjectPropertyAssertion {
             role: r,
             subject: i,
             object: j,

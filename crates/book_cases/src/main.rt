@@ -178,6 +178,16 @@ fn statement(x: Axiom) {
             id(subject);
             id(object);
         }
+        Axiom::DifferentIndividuals(i, j) => two(15, i, j),
+        Axiom::NegativeObjectPropertyAssertion {
+            role: r,
+            subject,
+            object,
+        } => {
+            of_role(16, r);
+            id(subject);
+            id(object);
+        }
     }
 }
 

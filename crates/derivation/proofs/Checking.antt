@@ -22,22 +22,23 @@ use Rattle.tables.specs.Open.{bookOf, Open}
 use Rattle.tables.proofs.Open.{open-within}
 use Rattle.book.specs.Header.{Limits}
 use Rattle.book.specs.Read.{pick}
-use Rattle.book.specs.declared.statement.Axiom.the-variants.{SubClassOf, EquivalentClasses, DisjointClasses, InverseObjectProperties, SubObjectPropertyOf, TransitiveRole, SymmetricRole, FunctionalRole, InverseFunctionalRole, ObjectPropertyDomain, ObjectPropertyRange, SameIndividual, ClassAssertion, ObjectPropertyAssertion}
+use Rattle.book.specs.declared.statement.Axiom.the-variants.{SubClassOf, EquivalentClasses, DisjointClasses, InverseObjectProperties, SubObjectPropertyOf, TransitiveRole, SymmetricRole, FunctionalRole, InverseFunctionalRole, ObjectPropertyDomain, ObjectPropertyRange, SameIndividual, ClassAssertion, ObjectPropertyAssertion, DifferentIndividuals, NegativeObjectPropertyAssertion}
 use Rattle.book.proofs.Accepted.{accepted-limits, accepted-axioms, accepted-within}
 use Rattle.rules.specs.Brought.{concept, atomicOf, markers}
 use Rattle.rules.specs.Clash.{Mark, bringMarks, marksBy, marks}
 use Rattle.rules.proofs.Tests.{every-append, every-from, every-all}
 use Rattle.tables.proofs.Sides.{class-low, disjoint-low}
 use Rattle.derivation.specs.Rows.{none, rowAt, Claim, fact, clash, nothing, claim, saysRow, named, earlier, numberOf, premisesOf}
-use Rattle.derivation.specs.Accept.{byStatement, bySharing, byClash, follows, claimAt, accepts, statements, ruleNumber, member}
+use Rattle.derivation.specs.Accept.{byStatement, bySharing, denies, byClash, follows, claimAt, accepts, statements, ruleNumber, member}
 use Rattle.derivation.proofs.Judging.{Low, statement-tried, sharing-tried}
 use Rattle.derivation.proofs.Clashing.{clash-tried}
+use Rattle.derivation.proofs.Denying.{denial-tried}
 use Rattle.derivation.proofs.Claims.{claim-low}
 use Rattle.derivation.proofs.Sound.{member-every}
 use Rattle.derivation.specs.declared.row.Row.{Row}
 use Rattle.derivation.specs.declared.row.Premises.{Premises}
 use Rattle.derivation.specs.Fits.{fits, anyOrder}
-use Rattle.derivation.specs.Judging.{Prepared, Ready, statementFits, sharingFits, clashFitsRow}
+use Rattle.derivation.specs.Judging.{Prepared, Ready, statementFits, sharingFits, denialFits, clashFitsRow}
 
 member-past : {A : Type 0} (l : List A) (k : ℕ) → length l ≤ k → member l k ≡ []
 member-past [] k h = refl
@@ -106,6 +107,8 @@ module _ {s O : List ℕ} {h : Counts} (o : Open s h O) where
   mark-low (SameIndividual a b) = tt
   mark-low (ClassAssertion c i) = tt
   mark-low (ObjectPropertyAssertion r a b) = tt
+  mark-low (DifferentIndividuals a b) = tt
+  mark-low (NegativeObjectPropertyAssertion r a b) = tt
 
   pub marks-low : Every (λ (m : Mark). m .left < h .classes) (marks (bookOf s))
   marks-low = every-from (λ x. Unit {0}) (λ (m : Mark). m .left < h .classes) (marksBy (bookOf s)) (λ x u. mark-low x) (statements (bookOf s)) (every-all (λ x. Unit {0}) (λ x. tt) (statements (bookOf s)))
@@ -149,10 +152,10 @@ module _ (s O : List ℕ) (o : Open s (bookOf s .counts) O) (below : (x : ℕ) �
   sharing-same f = rw (sharing-tried a b c (low (r .first)) (low (r .second)) (low (r .third)) B top below f) refl
 
   clash-same : clashFitsRow (B .counts) B r p ≡ byClash B r (named (B .counts) l r)
-  unfolding clashFitsRow byClash premisesOf named
+  unfolding clashFitsRow byClash denialFits denies premisesOf named
   clash-same =
       let i : length (statements B) ≡ B .counts .statements = accepted-axioms s B (o .whole) in
-      rw (i, clash-tried B top (disjoint-low o (bookOf s .statements) (open-within o)) (marks-low o) a b c (low (r .first)) (low (r .second)) (low (r .third))) refl
+      rw (i, clash-tried B top (disjoint-low o (bookOf s .statements) (open-within o)) (marks-low o) a b c (low (r .first)) (low (r .second)) (low (r .third)), denial-tried a b c (low (r .first)) (low (r .second)) (low (r .third)) B top (statements B) (accepted-within s B (o .whole))) refl
 
   -- the answers of `accept`
   row-late : earlier k r ≡ false → false ≡ accepts B l k

@@ -1,4 +1,4 @@
--- A clash of the facts that a row names is one of two of them.
+-- Types that clash among the facts that a row names are two of them.
 use Prim.Native.Nat.{ℕ, _<_}
 use native.Mathlib.Omega.{arith}
 use mathlib.Core.Path.{_≡_, refl, ap, _∙_, subst}
@@ -15,7 +15,7 @@ use Rattle.book.specs.declared.role.Role.the-variants.{Named, Inverse}
 use Rattle.rules.specs.Fact.{type, Two as Pair}
 use Rattle.rules.specs.Rule.{Set, some}
 use Rattle.rules.specs.Same.{functional}
-use Rattle.rules.specs.Clash.{disjoint, Mark, marks, marked, typeClash, bothMarked, markerClash, clashes}
+use Rattle.rules.specs.Clash.{disjoint, Mark, marks, marked, typeClash, bothMarked, markerClash, byTypes}
 use Rattle.rules.proofs.Tests.{false-true, both-ways, or-cases, or-left, or-right, and-both, and-intro, any-some, some-any, every-all}
 use Rattle.tables.proofs.Members.{Member, member, some-map}
 use Rattle.tables.proofs.Sides.{PairLow}
@@ -46,8 +46,8 @@ module _ (B : Book) (top : Limits (B .counts)) (pairs-low : Every (PairLow (B .c
     marked-by x a r c e =
         some-map _ _ (λ (m : Mark) i. let b = and-both (eqb (m .left) a) (eqb (m .role) r && eqb (m .class) c) i in and-intro (P (type x (m .left))) _ (ap (λ (y : ℕ). P (type x y)) (eqb-true (m .left) a (b .0)) ∙ e) (b .1)) (marks B)
 
-    pub types-clash : (x a b : ℕ) → x < B .counts .individuals → P (type x a) ≡ true → P (type x b) ≡ true → pairClash B a b ≡ true → clashes B P ≡ true
-    unfolding pairClash clashes typeClash markerClash
+    pub types-clash : (x a b : ℕ) → x < B .counts .individuals → P (type x a) ≡ true → P (type x b) ≡ true → pairClash B a b ≡ true → byTypes B P ≡ true
+    unfolding pairClash typeClash markerClash
     types-clash x a b l e f w =
         some-any (B .counts .individuals) (λ x. typeClash B P x || markerClash B P x) x l
         (⊎-elim told marking (or-cases (eqb (m .it .one) a && eqb (m .it .other) b) _ (m .passes)))
@@ -145,8 +145,7 @@ module _ (B : Book) (top : Limits (B .counts)) (pairs-low : Every (PairLow (B .c
             }
         go p among differ (Inverse r) i fun = false-true i
 
-    pub clashing : clashes B P ≡ true → Clashing
-    unfolding clashes
+    pub clashing : byTypes B P ≡ true → Clashing
     clashing e =
         let x = any-some (B .counts .individuals) (λ x. typeClash B P x || markerClash B P x) e in
         ⊎-elim (type-clashing (x .0) (x .1)) (marker-clashing (x .0) (x .1)) (or-cases (typeClash B P (x .0)) _ (x .2))
@@ -192,17 +191,17 @@ module _ (B : Book) (top : Limits (B .counts)) (pairs-low : Every (PairLow (B .c
     abbrev pairTwo : ℕ → Bool
     pairTwo g = oneOfThree (factIn a) (factIn b) (factIn c) λ h. clashFits (B .counts) B g h
 
-    pub clash-tried : clashes B (oneOf a b c) ≡ anyTwo (factIn a) (factIn b) (factIn c) (clashFits (B .counts) B)
+    pub clash-tried : byTypes B (oneOf a b c) ≡ anyTwo (factIn a) (factIn b) (factIn c) (clashFits (B .counts) B)
     clash-tried = both-ways _ _ into back
       where
-        into : clashes B (oneOf a b c) ≡ true → anyTwo (factIn a) (factIn b) (factIn c) (clashFits (B .counts) B) ≡ true
+        into : byTypes B (oneOf a b c) ≡ true → anyTwo (factIn a) (factIn b) (factIn c) (clashFits (B .counts) B) ≡ true
         into e =
             let w = clashing (oneOf a b c) e in
             slot-three (factIn a) (factIn b) (factIn c) pairTwo (type (w .at) (w .one)) (taken a b c la lb lc (type (w .at) (w .one)) (w .has-one) .1)
             (slot-three (factIn a) (factIn b) (factIn c) (clashFits (B .counts) B (type (w .at) (w .one))) (type (w .at) (w .other)) (taken a b c la lb lc (type (w .at) (w .other)) (w .has-other) .1)
             (types-fit (type (w .at) (w .one)) (type (w .at) (w .other)) (w .at) (w .one) (w .other) (w .at-low) (w .one-low) (w .other-low) refl refl (w .clash)))
 
-        back : anyTwo (factIn a) (factIn b) (factIn c) (clashFits (B .counts) B) ≡ true → clashes B (oneOf a b c) ≡ true
+        back : anyTwo (factIn a) (factIn b) (factIn c) (clashFits (B .counts) B) ≡ true → byTypes B (oneOf a b c) ≡ true
         back e =
             let g = three-slot (factIn a) (factIn b) (factIn c) pairTwo e in
             let h = three-slot (factIn a) (factIn b) (factIn c) (clashFits (B .counts) B (g .0)) (g .2) in

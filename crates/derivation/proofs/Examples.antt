@@ -17,11 +17,11 @@ use Rattle.book.specs.Within.{Every}
 use Rattle.rules.specs.Fact.{edge, type, pair}
 use Rattle.rules.specs.Brought.{atomics, values, markers}
 use Rattle.rules.specs.ToldSame.{labels, label, same}
-use Rattle.rules.specs.Clash.{marked, typeClash, markerClash, clashes}
+use Rattle.rules.specs.Clash.{marked, typeClash, markerClash}
 use Rattle.rules.proofs.Tests.{false-true, and-both}
 use Rattle.derivation.specs.Rows.{rowAt, claim, named, earlier}
-use Rattle.derivation.specs.Accept.{byStatement, bySharing, byClash, accepts, standing, stands, Judged, standRows, faultyBook, judged}
-use Rattle.derivation.specs.Examples.{worked, clashing, joined, Example, Holds, examples}
+use Rattle.derivation.specs.Accept.{byStatement, bySharing, denies, byClash, accepts, standing, stands, Judged, standRows, faultyBook, judged}
+use Rattle.derivation.specs.Examples.{worked, clashing, joined, differing, denying, Example, Holds, examples}
 
 abbrev pub same-answer : Judged → Judged → Bool
 same-answer (standRows n) (standRows m) = eqb n m
@@ -45,7 +45,7 @@ all-hold [] e = tt
 all-hold (x ∷ xs) e = let a = and-both (same-answer (judged (x .book) (x .rows)) (x .answer)) (tests xs) e in (answer-true (judged (x .book) (x .rows)) (x .answer) (a .0), all-hold xs (a .1))
 
 tests-come-out : tests examples ≡ true
-unfolding tests examples worked clashing joined roleOf several byte twoBytes fourBytes field fieldsFrom fields statementAllows header conceptStart partList bound conceptTail conceptRest concept statementStart pathOf axiomOf statementEnd statementRest statement partTrees concepts book decode edge type pair atomics values markers labels label same marked typeClash markerClash clashes rowAt claim named earlier byStatement bySharing byClash accepts standing stands judged
+unfolding tests examples worked clashing joined differing denying roleOf several byte twoBytes fourBytes field fieldsFrom fields statementAllows header conceptStart partList bound conceptTail conceptRest concept statementStart pathOf axiomOf statementEnd statementRest statement partTrees concepts book decode edge type pair atomics values markers labels label same marked typeClash markerClash denies rowAt claim named earlier byStatement bySharing byClash accepts standing stands judged
 tests-come-out = refl
 
 -- the whole table

@@ -18,7 +18,7 @@ use Rattle.book.specs.declared.role.Role.the-variants.{Named, Inverse}
 use Rattle.book.specs.declared.statement.SubRolePath.{SubRolePath}
 use Rattle.book.specs.declared.statement.SubRolePath.the-variants.{One, Two, Three}
 use Rattle.book.specs.declared.statement.Axiom.{Axiom}
-use Rattle.book.specs.declared.statement.Axiom.the-variants.{SubClassOf, EquivalentClasses, DisjointClasses, InverseObjectProperties, SubObjectPropertyOf, TransitiveRole, SymmetricRole, FunctionalRole, InverseFunctionalRole, ObjectPropertyDomain, ObjectPropertyRange, SameIndividual, ClassAssertion, ObjectPropertyAssertion}
+use Rattle.book.specs.declared.statement.Axiom.the-variants.{SubClassOf, EquivalentClasses, DisjointClasses, InverseObjectProperties, SubObjectPropertyOf, TransitiveRole, SymmetricRole, FunctionalRole, InverseFunctionalRole, ObjectPropertyDomain, ObjectPropertyRange, SameIndividual, ClassAssertion, ObjectPropertyAssertion, DifferentIndividuals, NegativeObjectPropertyAssertion}
 use Rattle.rules.specs.Fact.{edge, type, pair}
 use Rattle.rules.specs.Rule.{Rule, keep, when, each, every, some}
 use Rattle.rules.specs.Brought.{concept, Value, atomicOf, atomics, values}
@@ -356,6 +356,8 @@ module _ (B : Book) (top : Limits (B .counts)) (low : (c : ℕ) → Every (λ x.
   fits-orders (SameIndividual a b) w e = false-true e
   fits-orders (ClassAssertion c i) w e = told-orders n (top .individuals-top) f g h k (concept B c) i (g ∷ h ∷ k ∷ []) e
   fits-orders (ObjectPropertyAssertion r a b) w e = eqb-true f (edge r a b) e
+  fits-orders (DifferentIndividuals a b) w e = false-true e
+  fits-orders (NegativeObjectPropertyAssertion r a b) w e = false-true e
 
   pub orders-fits : (x : Axiom) → Orders f (useOf B x) (g ∷ h ∷ k ∷ []) → fits B x f g h k ≡ true
   unfolding fits
@@ -381,3 +383,5 @@ module _ (B : Book) (top : Limits (B .counts)) (low : (c : ℕ) → Every (λ x.
   orders-fits (SameIndividual a b) u = absurd (let a = u .1 in omega arith)
   orders-fits (ClassAssertion c i) u = orders-told n (top .individuals-top) f g h k (concept B c) i (g ∷ h ∷ k ∷ []) u
   orders-fits (ObjectPropertyAssertion r a b) u = eq-eqb f (edge r a b) u
+  orders-fits (DifferentIndividuals a b) u = absurd (let a = u .1 in omega arith)
+  orders-fits (NegativeObjectPropertyAssertion r a b) u = absurd (let a = u .1 in omega arith)

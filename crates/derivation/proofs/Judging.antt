@@ -18,7 +18,7 @@ use Rattle.book.specs.declared.role.Role.the-variants.{Named}
 use Rattle.book.specs.declared.statement.SubRolePath.{SubRolePath}
 use Rattle.book.specs.declared.statement.SubRolePath.the-variants.{One, Two, Three}
 use Rattle.book.specs.declared.statement.Axiom.{Axiom}
-use Rattle.book.specs.declared.statement.Axiom.the-variants.{SubClassOf, EquivalentClasses, DisjointClasses, InverseObjectProperties, SubObjectPropertyOf, TransitiveRole, SymmetricRole, FunctionalRole, InverseFunctionalRole, ObjectPropertyDomain, ObjectPropertyRange, SameIndividual, ClassAssertion, ObjectPropertyAssertion}
+use Rattle.book.specs.declared.statement.Axiom.the-variants.{SubClassOf, EquivalentClasses, DisjointClasses, InverseObjectProperties, SubObjectPropertyOf, TransitiveRole, SymmetricRole, FunctionalRole, InverseFunctionalRole, ObjectPropertyDomain, ObjectPropertyRange, SameIndividual, ClassAssertion, ObjectPropertyAssertion, DifferentIndividuals, NegativeObjectPropertyAssertion}
 use Rattle.rules.specs.Fact.{edge, type, pair}
 use Rattle.rules.specs.Rule.{Set, Rule, keep, when, each, given, every, yields}
 use Rattle.rules.specs.Brought.{concept, atomicOf, atomics, values}
@@ -75,6 +75,8 @@ module _ (B : Book) (f : ℕ) where
   asks-use (SameIndividual a b) = λ k. tt
   asks-use (ClassAssertion c i) = (asks-every f 3 _ (λ c. tt) (atomics (concept B c)), asks-every f 3 _ (λ v. tt) (values (concept B c)))
   asks-use (ObjectPropertyAssertion r a b) = tt
+  asks-use (DifferentIndividuals a b) = λ k. tt
+  asks-use (NegativeObjectPropertyAssertion r a b) = λ k. tt
 
 -- ---- three facts
 

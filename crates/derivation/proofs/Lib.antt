@@ -6,6 +6,7 @@ pub mod Uses
 pub mod Fitting
 pub mod Judging
 pub mod Clashing
+pub mod Denying
 pub mod Slots
 pub mod Claims
 pub mod Orders

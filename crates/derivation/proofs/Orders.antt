@@ -55,6 +55,9 @@ module _ {B : Book} {h : Counts} {K : List ℕ} (t : LabelsOf B h K) where
   unfolding changes
   one-class-is i j x e f = rw (told-is i j e f) refl
 
+  pub pair-denied : (i j x : ℕ) {s : Bool} → i < h .individuals → j < h .individuals → s ≡ oneClassBy (h .individuals) K i j x → s ≡ changes B i j x
+  pair-denied i j x l m e = e ∙ one-class-is i j x (lt-ltb i _ l) (lt-ltb j _ m)
+
   pub types-share : (f g x : ℕ) {i j c u v : ℕ} {s : Bool} → i ≡ bearer g → j ≡ bearer f → c ≡ classIn g → u ≡ type i c → v ≡ type j c
       → s ≡ oneClassBy (h .individuals) K i j x
       → (ltb i (h .individuals) && (ltb j (h .individuals) && (ltb c (h .classes) && (eqb g u && (eqb f v && s))))) ≡ shareTypes h B f g x

@@ -15,23 +15,23 @@ use Rattle.book.specs.Book.{Book, accepted, decode}
 use Rattle.book.specs.Within.{Every}
 use Rattle.book.specs.declared.statement.Axiom.{Axiom}
 use Rattle.rules.specs.Fact.{pair}
-use Rattle.rules.specs.Rule.{Set, Obeys, yields}
+use Rattle.rules.specs.Rule.{Set, Obeys, some, yields}
 use Rattle.rules.specs.Meaning.{ruleOf, rules, conclusions}
 use Rattle.rules.specs.Same.{samePair}
-use Rattle.rules.specs.Clash.{clashes}
+use Rattle.rules.specs.Clash.{byTypes, denied, clashes}
 use Rattle.rules.specs.Applied.{In}
 use Rattle.rules.specs.World.{World, Fits}
-use Rattle.rules.proofs.Tests.{false-true, or-cases, and-both, and-intro, every-some}
+use Rattle.rules.proofs.Tests.{false-true, or-cases, or-left, or-right, and-both, and-intro, every-some}
 use Rattle.rules.proofs.Least.{yields-in, obeys-every}
 use Rattle.rules.proofs.Inside.{Inside, accepted-inside}
 use Rattle.rules.proofs.Conclusions.{conclusions-obey}
 use Rattle.rules.proofs.Sound.{truth, conclusions-true, to-pair}
-use Rattle.book.specs.declared.statement.Axiom.the-variants.{SubClassOf, EquivalentClasses, DisjointClasses, InverseObjectProperties, SubObjectPropertyOf, TransitiveRole, SymmetricRole, FunctionalRole, InverseFunctionalRole, ObjectPropertyDomain, ObjectPropertyRange, SameIndividual, ClassAssertion, ObjectPropertyAssertion}
+use Rattle.book.specs.declared.statement.Axiom.the-variants.{SubClassOf, EquivalentClasses, DisjointClasses, InverseObjectProperties, SubObjectPropertyOf, TransitiveRole, SymmetricRole, FunctionalRole, InverseFunctionalRole, ObjectPropertyDomain, ObjectPropertyRange, SameIndividual, ClassAssertion, ObjectPropertyAssertion, DifferentIndividuals, NegativeObjectPropertyAssertion}
 use Rattle.book.specs.Role.{flipped}
 use Rattle.derivation.specs.declared.row.Row.{Row}
 use Rattle.derivation.specs.Rows.{none, rowAt, Claim, fact, clash, nothing, claim, says, saysRow, before, named, earlier}
-use Rattle.derivation.specs.Accept.{statements, ruleNumber, useOf, member, byAxiom, byStatement, sharingBoth, bySharing, byClash, follows, claimAt, accepts, standing, stands}
-use Rattle.derivation.proofs.Mono.{clashes-up, sharing-both, join-other}
+use Rattle.derivation.specs.Accept.{statements, ruleNumber, useOf, member, byAxiom, byStatement, sharingBoth, bySharing, denies, byClash, follows, claimAt, accepts, standing, stands}
+use Rattle.derivation.proofs.Mono.{types-up, denies-in, sharing-both, join-other}
 
 -- what a row claims is right: the fact is in the set, the set clashes
 abbrev pub Right : Book → Set → Claim → Type 0
@@ -60,6 +60,8 @@ use-obeys B S (ObjectPropertyRange r c) o = o
 use-obeys B S (SameIndividual a b) o = λ k l. absurd (omega arith)
 use-obeys B S (ClassAssertion c i) o = o
 use-obeys B S (ObjectPropertyAssertion r a b) o = o
+use-obeys B S (DifferentIndividuals a b) o = o
+use-obeys B S (NegativeObjectPropertyAssertion r a b) o = o
 
 -- what follows from a part of a set that obeys the rules is right of the set
 module _ (B : Book) (inside : Inside B) (P S : Set) (obeys : Obeys (rules B) S) (within : In P S) (r : Row) where
@@ -77,8 +79,10 @@ module _ (B : Book) (inside : Inside B) (P S : Set) (obeys : Obeys (rules B) S) 
       yields-in (sharingBoth B) P S (sharing-both B inside S obeys) within f (and-both (eqb (r .statement) none) (yields (sharingBoth B) P f) (a .1) .1)
 
   clash-right : byClash B r P ≡ true → clashes B S ≡ true
-  unfolding byClash
-  clash-right e = clashes-up B P S within (and-both (eqb (r .statement) none || ltb (r .statement) (length (statements B))) (clashes B P) (and-both (eqb (r .rule) 8) _ e .1) .1)
+  unfolding byClash clashes
+  clash-right e =
+      ⊎-elim (λ a. or-left (byTypes B S) (some (denied B) S) (types-up B P S within a)) (λ a. or-right (byTypes B S) (some (denied B) S) (denies-in B inside S obeys P within a))
+      (or-cases (byTypes B P) (denies B P) (and-both (eqb (r .statement) none || ltb (r .statement) (length (statements B))) (byTypes B P || denies B P) (and-both (eqb (r .rule) 8) _ e .1) .1))
 
   pub follows-right : (c : Claim) → follows B r P c ≡ true → Right B S c
   follows-right (fact f) e = ⊎-elim (statement-right f) (sharing-right f) (or-cases (byStatement B r P f) (bySharing B r P f) e)

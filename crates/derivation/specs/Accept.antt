@@ -10,12 +10,12 @@ use Rattle.book.specs.Book.{Book, axioms, decode}
 use Rattle.book.specs.declared.role.Role.{Role}
 use Rattle.book.specs.declared.role.Role.the-variants.{Named}
 use Rattle.book.specs.declared.statement.Axiom.{Axiom}
-use Rattle.book.specs.declared.statement.Axiom.the-variants.{SubClassOf, EquivalentClasses, DisjointClasses, InverseObjectProperties, SubObjectPropertyOf, TransitiveRole, SymmetricRole, FunctionalRole, InverseFunctionalRole, ObjectPropertyDomain, ObjectPropertyRange, SameIndividual, ClassAssertion, ObjectPropertyAssertion}
+use Rattle.book.specs.declared.statement.Axiom.the-variants.{SubClassOf, EquivalentClasses, DisjointClasses, InverseObjectProperties, SubObjectPropertyOf, TransitiveRole, SymmetricRole, FunctionalRole, InverseFunctionalRole, ObjectPropertyDomain, ObjectPropertyRange, SameIndividual, ClassAssertion, ObjectPropertyAssertion, DifferentIndividuals, NegativeObjectPropertyAssertion}
 use Rattle.rules.specs.Fact.{edge, type, pair}
 use Rattle.rules.specs.Rule.{Set, Rule, keep, when, each, both, given, some, yields}
 use Rattle.rules.specs.ToldSame.{same}
 use Rattle.rules.specs.Meaning.{ruleOf}
-use Rattle.rules.specs.Clash.{clashes}
+use Rattle.rules.specs.Clash.{byTypes}
 use Rattle.rules.specs.Ends.{onDecoded}
 use Rattle.derivation.specs.declared.row.Row.{Row}
 use Rattle.derivation.specs.Rows.{none, rowAt, Claim, fact, clash, nothing, claim, named, earlier}
@@ -24,7 +24,7 @@ use Rattle.derivation.specs.Rows.{none, rowAt, Claim, fact, clash, nothi
 abbrev pub statements : Book → List Axiom
 statements B = axioms B
 
--- the rule of 01 by which a statement acts; disjoint and told-same statements act through rules 8 and 6 alone
+-- the rule of 01 by which a statement acts; disjoint statements and those that deny act through rule 8 alone, told-same ones through rule 6
 abbrev pub ruleNumber : Axiom → ℕ
 ruleNumber (SubClassOf c d) = 2
 ruleNumber (EquivalentClasses c d) = 2
@@ -40,6 +40,8 @@ ruleNumber (ObjectPropertyRange r c) = 5
 ruleNumber (SameIndividual a b) = 6
 ruleNumber (ClassAssertion c i) = 1
 ruleNumber (ObjectPropertyAssertion r a b) = 1
+ruleNumber (DifferentIndividuals a b) = 8
+ruleNumber (NegativeObjectPropertyAssertion r a b) = 8
 
 -- Rule 7, over n individuals: two different fillers of one subject under r are joined, the lower number first.
 abbrev pub joinOther : ℕ → Role → Rule
@@ -62,6 +64,8 @@ useOf B (ObjectPropertyRange r c) = ruleOf B (ObjectPropertyRange r c)
 useOf B (SameIndividual a b) = each 0 keep
 useOf B (ClassAssertion c i) = ruleOf B (ClassAssertion c i)
 useOf B (ObjectPropertyAssertion r a b) = ruleOf B (ObjectPropertyAssertion r a b)
+useOf B (DifferentIndividuals a b) = ruleOf B (DifferentIndividuals a b)
+useOf B (NegativeObjectPropertyAssertion r a b) = ruleOf B (NegativeObjectPropertyAssertion r a b)
 
 -- member k of a list, if there is one
 abbrev pub member : {A : Type 0} → List A → ℕ → List A
@@ -94,9 +98,32 @@ sharingBoth B =
 unfoldable pub bySharing : Book → Row → Set → ℕ → Bool
 bySharing B r P f = eqb (r .rule) 6 && (eqb (r .statement) none && yields (sharingBoth B) P f)
 
--- rule 8 names a statement of the book or none, and all of them are known
+-- what a statement denies is known or among the facts P: two of one told class (an individual is in its own), or joined by a row, whichever number is the
+-- lower; an edge
+abbrev pub deniesOne : Book → Set → Axiom → Bool
+deniesOne B P (SubClassOf c d) = false
+deniesOne B P (EquivalentClasses c d) = false
+deniesOne B P (DisjointClasses c d) = false
+deniesOne B P (InverseObjectProperties r s) = false
+deniesOne B P (SubObjectPropertyOf p t) = false
+deniesOne B P (TransitiveRole r) = false
+deniesOne B P (SymmetricRole r) = false
+deniesOne B P (FunctionalRole r) = false
+deniesOne B P (InverseFunctionalRole r) = false
+deniesOne B P (ObjectPropertyDomain r c) = false
+deniesOne B P (ObjectPropertyRange r c) = false
+deniesOne B P (SameIndividual a b) = false
+deniesOne B P (ClassAssertion c i) = false
+deniesOne B P (ObjectPropertyAssertion r a b) = false
+deniesOne B P (DifferentIndividuals a b) = same B a b || (P (pair a b) || P (pair b a))
+deniesOne B P (NegativeObjectPropertyAssertion r a b) = P (edge r a b)
+
+unfoldable pub denies : Book → Set → Bool
+denies B P = some (statements B) (deniesOne B P)
+
+-- rule 8 names a statement of the book or none, and all of them are known: types clash, or a statement denies
 unfoldable pub byClash : Book → Row → Set → Bool
-byClash B r P = eqb (r .rule) 8 && ((eqb (r .statement) none || ltb (r .statement) (length (statements B))) && clashes B P)
+byClash B r P = eqb (r .rule) 8 && ((eqb (r .statement) none || ltb (r .statement) (length (statements B))) && (byTypes B P || denies B P))
 
 -- what a row claims follows from the facts P of the rows that it names
 abbrev pub follows : Book → Row → Set → Claim → Bool

@@ -35,6 +35,18 @@ joined =
     ∷ 0xC1 ∷ 0x00 ∷ 0x00 ∷ 0x00 ∷ 0x03 ∷ 0x00 ∷ 0x05 ∷ 0x00 ∷ 0x0E ∷ 0xC1 ∷ 0x00 ∷ 0x02 ∷ 0x00 ∷ 0x01 ∷ 0x00 ∷ 0x01 ∷ 0x00 ∷ 0x0E ∷ 0xC1 ∷ 0x00
     ∷ 0x02 ∷ 0x00 ∷ 0x01 ∷ 0x00 ∷ 0x04 ∷ 0x00 ∷ 0x0C ∷ 0xC0 ∷ 0x00 ∷ 0x05 ∷ 0x00 ∷ 0x06 ∷ 0x00 ∷ [])
 
+-- One individual, and statement 0: it differs from itself.
+unfoldable pub differing : List ℕ
+differing = 0x14 ∷ 0x01 ∷ 0x00 ∷ 0x01 ∷ 0x00 ∷ 0x0F ∷ 0xC0 ∷ 0x00 ∷ 0x00 ∷ 0x00 ∷ 0x00 ∷ 0x00 ∷ []
+
+-- A role p, three individuals. Statements: 0 p is functional; 1 and 2 the edges p(0,1), p(0,2); 3 denies that 2 and 1 are one; 4 that the inverse of p leads
+-- 1 to 0.
+unfoldable pub denying : List ℕ
+denying =
+    (0x16 ∷ 0x01 ∷ 0x00 ∷ 0x03 ∷ 0x00 ∷ 0x05 ∷ 0x00 ∷ 0x08 ∷ 0x01 ∷ 0x00 ∷ 0x00 ∷ 0x00 ∷ 0x0E ∷ 0xC1 ∷ 0x00 ∷ 0x00 ∷ 0x00 ∷ 0x00 ∷ 0x00 ∷ 0x01
+    ∷ 0x00 ∷ 0x0E ∷ 0xC1 ∷ 0x00 ∷ 0x00 ∷ 0x00 ∷ 0x00 ∷ 0x00 ∷ 0x02 ∷ 0x00 ∷ 0x0F ∷ 0xC0 ∷ 0x00 ∷ 0x02 ∷ 0x00 ∷ 0x01 ∷ 0x00 ∷ 0x10 ∷ 0xC1 ∷ 0x00
+    ∷ 0x01 ∷ 0x00 ∷ 0x01 ∷ 0x00 ∷ 0x00 ∷ 0x00 ∷ [])
+
 -- a row in front of others: rule, statement, three earlier rows, kind, three numbers
 abbrev pub row : ℕ → ℕ → ℕ → ℕ → ℕ → ℕ → ℕ → ℕ → ℕ → List ℕ → List ℕ
 row rule statement a b c kind x y z l = rule ∷ statement ∷ a ∷ b ∷ c ∷ kind ∷ x ∷ y ∷ z ∷ l
@@ -75,6 +87,10 @@ edges l =
 -- and the joinings of 1 and 2, of 4 and 5, as rows 6 and 7
 abbrev joinings : List ℕ → List ℕ
 joinings l = edges (row 7 0 0 1 - 3 1 2 - (row 7 0 2 3 - 3 4 5 - l))
+
+-- the edges of the denying book, and the joining of 1 and 2, as rows 0 to 2
+abbrev fillers : List ℕ → List ℕ
+fillers l = row 1 1 - - - 1 0 0 1 (row 1 2 - - - 1 0 0 2 (row 7 0 0 1 - 3 1 2 - l))
 
 abbrev example : List ℕ → List ℕ → ℕ → Example
 example book rows n = record { book = book; rows = rows; answer = standRows n }
@@ -132,6 +148,12 @@ examples =
     -- rule 6 names no statement; rule 8 one of the book's or none
     ∷ example clashing (facts (row 6 0 3 - - 0 0 1 - [])) 4
     ∷ example clashing (facts (row 6 - 3 - - 0 0 1 - (row 8 7 4 2 - 2 - - - []))) 5
+    -- what is denied: one number twice, for nothing; a found pair by its joining row, an edge by its own, whatever statement of the book is named, or none
+    ∷ example differing (row 8 0 - - - 2 - - - []) 1
+    ∷ example denying (fillers (row 8 3 2 - - 2 - - - (row 8 4 0 - - 2 - - - (row 8 - - 0 - 2 - - - [])))) 6
+    -- not by the row of another edge; nor by none
+    ∷ example denying (fillers (row 8 4 1 - - 2 - - - [])) 3
+    ∷ example denying (fillers (row 8 3 - - - 2 - - - [])) 3
     -- a last row without its last number, which would be 0
     ∷ example clashing (row 1 3 - - - 1 0 0 1 (6 ∷ - ∷ 0 ∷ - ∷ - ∷ 1 ∷ 0 ∷ 1 ∷ [])) 1
     -- no rows; no book

@@ -12,7 +12,7 @@ use Rattle.book.specs.declared.role.Role.the-variants.{Named, Inverse}
 use Rattle.book.specs.declared.statement.SubRolePath.{SubRolePath}
 use Rattle.book.specs.declared.statement.SubRolePath.the-variants.{One, Two, Three}
 use Rattle.book.specs.declared.statement.Axiom.{Axiom}
-use Rattle.book.specs.declared.statement.Axiom.the-variants.{SubClassOf, EquivalentClasses, DisjointClasses, InverseObjectProperties, SubObjectPropertyOf, TransitiveRole, SymmetricRole, FunctionalRole, InverseFunctionalRole, ObjectPropertyDomain, ObjectPropertyRange, SameIndividual, ClassAssertion, ObjectPropertyAssertion}
+use Rattle.book.specs.declared.statement.Axiom.the-variants.{SubClassOf, EquivalentClasses, DisjointClasses, InverseObjectProperties, SubObjectPropertyOf, TransitiveRole, SymmetricRole, FunctionalRole, InverseFunctionalRole, ObjectPropertyDomain, ObjectPropertyRange, SameIndividual, ClassAssertion, ObjectPropertyAssertion, DifferentIndividuals, NegativeObjectPropertyAssertion}
 use Rattle.rules.specs.Fact.{edge, type, pair, Two as Pair}
 use Rattle.rules.specs.Rule.{some}
 use Rattle.rules.specs.Brought.{concept, atomicOf, atomics, values}
@@ -111,6 +111,8 @@ fits B (ObjectPropertyRange r c) f g h k = rangeFits (B .counts .individuals) r 
 fits B (SameIndividual a b) f g h k = false
 fits B (ClassAssertion c i) f g h k = toldFits (concept B c) i f
 fits B (ObjectPropertyAssertion r a b) f g h k = eqb f (edge r a b)
+fits B (DifferentIndividuals a b) f g h k = false
+fits B (NegativeObjectPropertyAssertion r a b) f g h k = false
 
 -- whether x is the joining of i and j, whichever has the lower number
 abbrev pub joins : ℕ → ℕ → ℕ → Bool
@@ -152,6 +154,25 @@ bothBring B a b p (Inverse r) = false
 unfoldable pub pairClash : Book → ℕ → ℕ → Bool
 pairClash B a b =
     some (disjoint B) λ p. (eqb (p .one) a && eqb (p .other) b) || (not (eqb (p .one) (p .other)) && some (functional B) (bothBring B a b p))
+
+-- rule 8: a statement denies the fact g, or what is known without it
+abbrev pub denyFits : Book → Axiom → ℕ → Bool
+denyFits B (SubClassOf c d) g = false
+denyFits B (EquivalentClasses c d) g = false
+denyFits B (DisjointClasses c d) g = false
+denyFits B (InverseObjectProperties r s) g = false
+denyFits B (SubObjectPropertyOf p t) g = false
+denyFits B (TransitiveRole r) g = false
+denyFits B (SymmetricRole r) g = false
+denyFits B (FunctionalRole r) g = false
+denyFits B (InverseFunctionalRole r) g = false
+denyFits B (ObjectPropertyDomain r c) g = false
+denyFits B (ObjectPropertyRange r c) g = false
+denyFits B (SameIndividual a b) g = false
+denyFits B (ClassAssertion c i) g = false
+denyFits B (ObjectPropertyAssertion r a b) g = false
+denyFits B (DifferentIndividuals a b) g = changes B a b g
+denyFits B (NegativeObjectPropertyAssertion r a b) g = eqb g (edge r a b)
 
 -- rule 8: g and h are types of one individual, whose classes clash
 unfoldable pub clashFits : Counts → Book → ℕ → ℕ → Bool

@@ -19,7 +19,7 @@ use Rattle.derivation.specs.declared.check.Judgement.{Judgement}
 use Rattle.derivation.specs.declared.check.Judgement.the-variants.{Standing, Refused}
 use Rattle.derivation.specs.Rows.{none}
 use Rattle.derivation.specs.Accept.{statements, ruleNumber, member, Judged, standRows, faultyBook}
-use Rattle.derivation.specs.Fits.{fits, shareFits, clashFits, anyOrder, anyTwo}
+use Rattle.derivation.specs.Fits.{fits, shareFits, denyFits, clashFits, oneOfThree, anyOrder, anyTwo}
 use Rattle.derivation.specs.Tables.{Concepts, ConceptsOf, LabelsOf, PairsOf, Starts}
 
 -- the tables of concepts and of statements, ready for a row
@@ -74,5 +74,9 @@ statementFits B r f p = some (member (statements B) (r .statement)) λ x. eqb (r
 unfoldable pub sharingFits : Counts → Book → Row → ℕ → Premises → Bool
 sharingFits h B r f p = eqb (r .rule) 6 && (eqb (r .statement) none && anyOrder (p .one) (p .two) (p .three) (shareFits h B f))
 
+-- a statement denies one of the facts p
+unfoldable pub denialFits : Book → Premises → Bool
+denialFits B p = some (statements B) λ x. oneOfThree (p .one) (p .two) (p .three) (denyFits B x)
+
 unfoldable pub clashFitsRow : Counts → Book → Row → Premises → Bool
-clashFitsRow h B r p = eqb (r .rule) 8 && ((eqb (r .statement) none || ltb (r .statement) (h .statements)) && anyTwo (p .one) (p .two) (p .three) (clashFits h B))
+clashFitsRow h B r p = eqb (r .rule) 8 && ((eqb (r .statement) none || ltb (r .statement) (h .statements)) && (anyTwo (p .one) (p .two) (p .three) (clashFits h B) || denialFits B p))

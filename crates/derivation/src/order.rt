@@ -5,10 +5,11 @@ ghost use lib.ListN.{length};
 ghost use Rattle.book.specs.Book.{Book};
 ghost use Rattle.book.specs.Header.{Limits};
 ghost use Rattle.book.specs.Within.{Within};
-ghost use Rattle.derivation.specs.Fits.{fits as fitsBy, shareTypes, shareEdges, shareFits as sharesBy, clashFits as clashesBy, oneOfThree, anyOrder, anyTwo};
+ghost use Rattle.derivation.specs.Fits.{fits as fitsBy, shareTypes, shareEdges, shareFits as sharesBy, clashFits as clashesBy, denyFits, oneOfThree, anyOrder, anyTwo};
 ghost use Rattle.derivation.specs.Tables.{Concepts, ConceptsOf, toldSame, oneClassBy, LabelsOf, PairsOf};
 use super::fact::bearer;
 use super::fact::class_in;
+use super::fact::edge_of;
 use super::fact::is_edge;
 use super::fact::leads_from;
 use super::fact::leads_to;
@@ -237,4 +238,52 @@ pub fn clash_fits(counts: Counts, pairs: &[u64], p: Premises) -> bool
 {
     clash_with(counts, pairs, p, p.one)
         | (clash_with(counts, pairs, p, p.two) | clash_with(counts, pairs, p, p.three))
+}
+
+// Whether a statement denies the fact g, or what is known without it.
+fn deny_with(statement: Axiom, counts: Counts, labels: &[u32], g: u32) -> bool
+    requires { ⌜ Limits counts × (counts .individuals ≤ length (now labels)) × Within counts statement ⌝ }
+    ensures { λ x. ⌜ ((B : Book) → LabelsOf B counts (now (labels .entry)) → x ≡ denyFits B statement g) ⌝ }
+{
+    match statement {
+        Axiom::SubClassOf { sub: _, sup: _ } => false,
+        Axiom::EquivalentClasses(_, _) => false,
+        Axiom::DisjointClasses(_, _) => false,
+        Axiom::InverseObjectProperties(_, _) => false,
+        Axiom::SubObjectPropertyOf { sub: _, sup: _ } => false,
+        Axiom::TransitiveRole(_) => false,
+        Axiom::SymmetricRole(_) => false,
+        Axiom::FunctionalRole(_) => false,
+        Axiom::InverseFunctionalRole(_) => false,
+        Axiom::ObjectPropertyDomain { role: _, domain: _ } => false,
+        Axiom::ObjectPropertyRange { role: _, range: _ } => false,
+        Axiom::SameIndividual(_, _) => false,
+        Axiom::ClassAssertion {
+            class: _,
+            individual: _,
+        } => false,
+        Axiom::ObjectPropertyAssertion {
+            role: _,
+            subject: _,
+            object: _,
+        } => false,
+        Axiom::DifferentIndividuals(a, b) => {
+            one_class(counts.individuals as u32, labels, a, b, g)
+        }
+        Axiom::NegativeObjectPropertyAssertion {
+            role,
+            subject,
+            object,
+        } => g == edge_of(role, subject, object),
+    }
+}
+
+// Whether it denies one of the facts p.
+pub fn deny_fits(statement: Axiom, counts: Counts, labels: &[u32], p: Premises) -> bool
+    requires { ⌜ Limits counts × (counts .individuals ≤ length (now labels)) × Within counts statement ⌝ }
+    ensures { λ x. ⌜ ((B : Book) → LabelsOf B counts (now (labels .entry)) → x ≡ oneOfThree (p .one) (p .two) (p .three) (denyFits B statement)) ⌝ }
+{
+    deny_with(statement, counts, labels, p.one)
+        | (deny_with(statement, counts, labels, p.two)
+            | deny_with(statement, counts, labels, p.three))
 }

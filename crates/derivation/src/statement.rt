@@ -274,5 +274,11 @@ pub fn fits(
             subject,
             object,
         } => f == edge_of(role, subject, object),
+        Axiom::DifferentIndividuals(_, _) => false,
+        Axiom::NegativeObjectPropertyAssertion {
+            role: _,
+            subject: _,
+            object: _,
+        } => false,
     }
 }

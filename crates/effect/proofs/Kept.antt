@@ -8,7 +8,7 @@ use lib.Dec.{ltb}
 use Rattle.book.specs.Statement.{bodies}
 use Rattle.book.specs.Book.{Book, withStatements}
 use Rattle.book.specs.declared.statement.Axiom.{Axiom}
-use Rattle.book.specs.declared.statement.Axiom.the-variants.{SubClassOf, EquivalentClasses, DisjointClasses, InverseObjectProperties, SubObjectPropertyOf, TransitiveRole, SymmetricRole, FunctionalRole, InverseFunctionalRole, ObjectPropertyDomain, ObjectPropertyRange, SameIndividual, ClassAssertion, ObjectPropertyAssertion}
+use Rattle.book.specs.declared.statement.Axiom.the-variants.{SubClassOf, EquivalentClasses, DisjointClasses, InverseObjectProperties, SubObjectPropertyOf, TransitiveRole, SymmetricRole, FunctionalRole, InverseFunctionalRole, ObjectPropertyDomain, ObjectPropertyRange, SameIndividual, ClassAssertion, ObjectPropertyAssertion, DifferentIndividuals, NegativeObjectPropertyAssertion}
 use Rattle.book.specs.declared.statement.Statement.{Statement}
 use Rattle.rules.specs.Fact.{pair}
 use Rattle.rules.specs.Rule.{Set, Rule, Obeys, every}
@@ -38,6 +38,8 @@ module _ (B : Book) (ys : List Statement) where
   rule-same (SameIndividual a b) = refl
   rule-same (ClassAssertion c i) = refl
   rule-same (ObjectPropertyAssertion r a b) = refl
+  rule-same (DifferentIndividuals a b) = refl
+  rule-same (NegativeObjectPropertyAssertion r a b) = refl
 
   front-obeys : (S : Set) (xs zs : List Statement) → Obeys (every (bodies (xs ++ zs)) (ruleOf (withStatements B ys))) S → Obeys (every (bodies xs) (ruleOf B)) S
   front-obeys S [] zs o = λ k l. absurd (omega arith)

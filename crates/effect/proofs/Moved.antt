@@ -92,7 +92,7 @@ moves-start : Moves statementStart
 unfolding statementStart
 moves-start =
     moves-then byte _ moves-byte λ kind.
-    moves-test (not (eqb kind 0)) 7 _ (moves-test (ltb kind 15) 7 _
+    moves-test (not (eqb kind 0)) 7 _ (moves-test (ltb kind 17) 7 _
     (moves-then twoBytes _ moves-two λ map.
     moves-test (ltb map 2048) 8 _ (moves-test (statementAllows kind (map % 256)) 8 _ (λ pre t at. refl))))
 
@@ -111,7 +111,7 @@ local-start : Local statementStart
 unfolding statementStart
 local-start =
     local-then byte _ local-byte λ kind.
-    local-test (not (eqb kind 0)) 7 _ (local-test (ltb kind 15) 7 _
+    local-test (not (eqb kind 0)) 7 _ (local-test (ltb kind 17) 7 _
     (local-then twoBytes _ local-two λ map.
     local-test (ltb map 2048) 8 _ (local-test (statementAllows kind (map % 256)) 8 _ (local-give _))))
 

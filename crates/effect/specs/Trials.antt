@@ -198,6 +198,8 @@ trials =
     ∷ (trial 2 (room 4 6 6) (room 4 6 6) chain transitive chained (bare (edge (Named 0) 0 2 ∷ steps) Spent))
     -- the copy clashes
     ∷ (trial 6 six six apart joining plated (bare merged (Clash 4 0)))
+    -- it denies an edge of the present run: a clash
+    ∷ (trial 6 six six chain (0x10 ∷ 0xC1 ∷ 0x00 ∷ 0x00 ∷ 0x00 ∷ 0x00 ∷ 0x00 ∷ 0x01 ∷ 0x00 ∷ []) chained (bare steps (Clash 0 2)))
     -- 2 of the lists for the difference, though the record is short
     ∷ (trial 6 six (room 12 17 6) chain (0x06 ∷ []) chained (bare [] (Refused 2)))
     -- 2 though 3 is due as well
@@ -213,7 +215,7 @@ trials =
     -- two records: 10
     ∷ (trial 6 six six chain (transitive ++ transitive) chained (bare [] (Refused 10)))
     -- an unknown kind: 7
-    ∷ (trial 6 six six chain (0x0F ∷ []) chained (bare [] (Refused 7)))
+    ∷ (trial 6 six six chain (0x11 ∷ []) chained (bare [] (Refused 7)))
     -- a map that is none of its kind: 8
     ∷ (trial 6 six six chain (0x06 ∷ 0x30 ∷ 0x00 ∷ []) chained (bare [] (Refused 8)))
     -- a role out of range: 9

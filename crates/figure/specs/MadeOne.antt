@@ -6,7 +6,7 @@ use Rattle.book.specs.Book.{Book}
 use Rattle.book.specs.declared.header.Counts.{Counts}
 use Rattle.book.specs.declared.statement.Axiom.{Axiom}
 use Rattle.book.specs.declared.statement.Statement.{Statement}
-use Rattle.book.specs.declared.statement.Axiom.the-variants.{SubClassOf, EquivalentClasses, DisjointClasses, InverseObjectProperties, SubObjectPropertyOf, TransitiveRole, SymmetricRole, FunctionalRole, InverseFunctionalRole, ObjectPropertyDomain, ObjectPropertyRange, SameIndividual, ClassAssertion, ObjectPropertyAssertion}
+use Rattle.book.specs.declared.statement.Axiom.the-variants.{SubClassOf, EquivalentClasses, DisjointClasses, InverseObjectProperties, SubObjectPropertyOf, TransitiveRole, SymmetricRole, FunctionalRole, InverseFunctionalRole, ObjectPropertyDomain, ObjectPropertyRange, SameIndividual, ClassAssertion, ObjectPropertyAssertion, DifferentIndividuals, NegativeObjectPropertyAssertion}
 
 abbrev mutual
   pub oneConcept : Concept → Concept
@@ -42,6 +42,8 @@ oneAxiom (ObjectPropertyRange r c) = ObjectPropertyRange r c
 oneAxiom (SameIndividual a b) = SameIndividual 0 0
 oneAxiom (ClassAssertion c i) = ClassAssertion c 0
 oneAxiom (ObjectPropertyAssertion r a b) = ObjectPropertyAssertion r 0 0
+oneAxiom (DifferentIndividuals a b) = DifferentIndividuals 0 0
+oneAxiom (NegativeObjectPropertyAssertion r a b) = NegativeObjectPropertyAssertion r 0 0
 
 abbrev pub oneStatement : Statement → Statement
 oneStatement x = record { body = oneAxiom (x .body); source = x .source; first = x .first; last = x .last }

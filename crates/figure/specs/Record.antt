@@ -11,7 +11,7 @@ use Rattle.book.specs.Within.{Within}
 use Rattle.book.specs.declared.header.Counts.{Counts}
 use Rattle.book.specs.declared.statement.SubRolePath.the-variants.{One, Two, Three}
 use Rattle.book.specs.declared.statement.Axiom.{Axiom}
-use Rattle.book.specs.declared.statement.Axiom.the-variants.{SubClassOf, EquivalentClasses, DisjointClasses, InverseObjectProperties, SubObjectPropertyOf, TransitiveRole, SymmetricRole, FunctionalRole, InverseFunctionalRole, ObjectPropertyDomain, ObjectPropertyRange, SameIndividual, ClassAssertion, ObjectPropertyAssertion}
+use Rattle.book.specs.declared.statement.Axiom.the-variants.{SubClassOf, EquivalentClasses, DisjointClasses, InverseObjectProperties, SubObjectPropertyOf, TransitiveRole, SymmetricRole, FunctionalRole, InverseFunctionalRole, ObjectPropertyDomain, ObjectPropertyRange, SameIndividual, ClassAssertion, ObjectPropertyAssertion, DifferentIndividuals, NegativeObjectPropertyAssertion}
 
 -- a path of one, two or three roles, and the role above it
 abbrev pub pathSaid : ℕ → ℕ → ℕ → ℕ → ℕ → Axiom
@@ -24,13 +24,13 @@ pathNumbers low = pick (eqb low 0x09) 2 (pick (eqb low 0x0B) 3 4)
 
 -- how many numbers a statement has, source and days apart
 abbrev pub numbersOf : ℕ → ℕ → ℕ
-numbersOf kind low = pick (eqb kind 5) (pathNumbers low) (pick (eqb kind 14) 3 (pick (ltb kind 6) 2 (pick (ltb kind 10) 1 2)))
+numbersOf kind low = pick (eqb kind 5) (pathNumbers low) (pick (eqb kind 14) 3 (pick (eqb kind 16) 3 (pick (ltb kind 6) 2 (pick (ltb kind 10) 1 2))))
 
 -- how many of source and days a map tells: its bits 8, 9 and 10
 abbrev pub marksOf : ℕ → ℕ
 marksOf map = map / 256 % 2 + map / 512 % 2 + map / 1024
 
--- the kinds 1 to 14 in their order; there is none besides, and in the place of each other one stands a statement that brings no class and no role
+-- the kinds 1 to 16 in their order; there is none besides, and in the place of each other one stands a statement that brings no class and no role
 abbrev pub saidKinds : ℕ → ℕ → ℕ → ℕ → ℕ → List Axiom
 saidKinds low a b c d =
     SameIndividual a b
@@ -48,6 +48,8 @@ saidKinds low a b c d =
     ∷ SameIndividual a b
     ∷ ClassAssertion a b
     ∷ ObjectPropertyAssertion (roleOf a) b c
+    ∷ DifferentIndividuals a b
+    ∷ NegativeObjectPropertyAssertion (roleOf a) b c
     ∷ []
 
 unfoldable pub said : ℕ → ℕ → ℕ → ℕ → ℕ → ℕ → Axiom

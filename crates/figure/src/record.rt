@@ -41,6 +41,9 @@ fn numbers_of(kind: u8, low: usize) -> usize
     if kind == 14 {
         return 3;
     }
+    if kind == 16 {
+        return 3;
+    }
     if kind < 6 {
         return 2;
     }

@@ -31,7 +31,7 @@ use Rattle.judge.specs.Answered.{answerOf, gave}
 use Rattle.judge.specs.declared.answer.Answer.{Answer}
 
 -- what is drawn shows the book's classes and conclusions
-module _ {h : Counts} {B : Book} (inside : Inside B) (counts : B .counts ≡ h) {budget : ℕ} {S L K t : List ℕ} {u : ℕ} (d : Drawn h B budget S L K t u) where
+module _ {h : Counts} {B : Book} (inside : Inside B) (counts : B .counts ≡ h) {budget : ℕ} {S L K t : List ℕ} {u : ℕ} {b : Bool} (d : Drawn h B budget S L K t u b) where
   abbrev g : List ℕ
   g = part (layoutOf h) Groups S
 

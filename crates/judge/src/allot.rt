@@ -43,7 +43,7 @@ fn small(
     let mut chains = [0u8; 256];
     let mut labels = [0u32; 16];
     let mut leaves = [0u32; 64];
-    let used = draw(
+    let drawn = draw(
         book,
         offsets,
         task,
@@ -54,7 +54,17 @@ fn small(
         &mut labels,
         &mut t,
     );
-    let end = read_off(&t, task, &says, &leaves, &labels, used, types, edges, pairs);
+    let end = read_off(
+        &t,
+        task,
+        &says,
+        &leaves,
+        &labels,
+        drawn,
+        types,
+        edges,
+        pairs,
+    );
     give_answer(book, offsets, task.counts, &t, &says, question, end)
 }
 
@@ -83,7 +93,7 @@ fn large(
     let mut chains = [0u8; 16384];
     let mut labels = [0u32; 512];
     let mut leaves = [0u32; 4096];
-    let used = draw(
+    let drawn = draw(
         book,
         offsets,
         task,
@@ -94,7 +104,7 @@ fn large(
         &mut labels,
         t,
     );
-    let end = read_off(t, task, &says, &leaves, &labels, used, types, edges, pairs);
+    let end = read_off(t, task, &says, &leaves, &labels, drawn, types, edges, pairs);
     give_answer(book, offsets, task.counts, t, &says, question, end)
 }
 

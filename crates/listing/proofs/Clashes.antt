@@ -5,6 +5,7 @@ use native.Mathlib.Omega.{arith}
 use mathlib.Core.Path.{_≡_, refl, ap, sym, _∙_, subst}
 use mathlib.Core.Bool.{Bool, true, false, _&&_}
 use mathlib.Core.List.{List}
+use mathlib.Core.Logic.{⊎-elim}
 use lib.ListN.{length}
 use lib.Dec.{eqb, ltb}
 use borrow.Author.Tests.{eq-eqb}
@@ -18,11 +19,11 @@ use Rattle.rows.specs.Table.{wide, base, leads, Sized, Can, Table}
 use Rattle.rows.specs.Table.{flipped}
 use Rattle.rows.proofs.table.Sizes.{row-room}
 use Rattle.rules.specs.Fact.{type}
-use Rattle.rules.specs.Rule.{Set}
+use Rattle.rules.specs.Rule.{Set, some}
 use Rattle.book.specs.Within.{Every}
-use Rattle.rules.specs.Clash.{Mark, disjoint, marks, clashes}
+use Rattle.rules.specs.Clash.{Mark, disjoint, marks, byTypes, denied, clashes}
 use Rattle.rules.specs.Applied.{In}
-use Rattle.rules.proofs.Tests.{false-true, and-intro, or-left}
+use Rattle.rules.proofs.Tests.{false-true, and-intro, or-cases, or-left}
 use Rattle.tables.specs.Open.{bookOf, sizeOf, Open}
 use Rattle.tables.proofs.Open.{open-limits, open-within}
 use Rattle.saturation.proofs.Sides.{PairLow, disjoint-low}
@@ -30,7 +31,7 @@ use Rattle.rounds.specs.View.{fact as factOf}
 use Rattle.rounds.proofs.View.{fact-types}
 use Rattle.derivation.specs.declared.row.Row.{Row}
 use Rattle.derivation.specs.Rows.{none, rowAt, Claim, fact, clash, claim, says, saysRow, before, named, earlier}
-use Rattle.derivation.specs.Accept.{statements, byClash, follows, claimAt, accepts}
+use Rattle.derivation.specs.Accept.{statements, denies, byClash, follows, claimAt, accepts}
 use Rattle.derivation.specs.Fits.{pairClash}
 use Rattle.derivation.specs.Tables.{PairsOf}
 use Rattle.derivation.proofs.Clashing.{types-clash, clashing, Clashing as TwoTypes}
@@ -110,7 +111,7 @@ module _ (z : Size) (t P : List ℕ) (x : ℕ) where
 
 -- ---- the row
 
-accepts-by : (B : Book) (l : List ℕ) (k : ℕ) (r : Row) (c : Claim) → rowAt l k ≡ r → claimAt B l k ≡ c → earlier k r ≡ true → follows B r (named (B .counts) l r) c ≡ true → accepts B l k ≡ true
+pub accepts-by : (B : Book) (l : List ℕ) (k : ℕ) (r : Row) (c : Claim) → rowAt l k ≡ r → claimAt B l k ≡ c → earlier k r ≡ true → follows B r (named (B .counts) l r) c ≡ true → accepts B l k ≡ true
 unfolding accepts
 accepts-by B l k r c e f a b =
     subst (λ (d : Claim). (earlier k (rowAt l k) && follows B (rowAt l k) (named (B .counts) l (rowAt l k)) d) ≡ true) (sym f)
@@ -141,20 +142,20 @@ module _ {s O : List ℕ} {h : Counts} {t : List ℕ} {n : ℕ} {l : List ℕ} (
   same-classes : bookOf s .counts .classes ≡ h .classes
   same-classes = ap (λ (g : Counts). g .classes) (o .counts)
 
-  -- a clash is found
-  pub clash-there : {P : List ℕ} {r : Found} → PairsOf (bookOf s) h P → clashes (bookOf s) (knownIn h t) ≡ true → Clashing (sizeOf h) t P r → Two (sizeOf h) t P r × (r .other < h .classes)
-  clash-there {P} {r} pairs c f = go (decLt (r .other) (h .classes))
-    where
-      it : TwoTypes (bookOf s) top pairs-low marks-below (knownIn h t)
-      it = clashing (bookOf s) top pairs-low marks-below (knownIn h t) c
+  -- types that clash are found
+  not-found : {P : List ℕ} {r : Found} → PairsOf (bookOf s) h P → byTypes (bookOf s) (knownIn h t) ≡ true → Clashing (sizeOf h) t P r → h .classes ≤ r .other → ⊥
+  not-found {P} {r} pairs c f l =
+      let it : TwoTypes (bookOf s) top pairs-low marks-below (knownIn h t) = clashing (bookOf s) top pairs-low marks-below (knownIn h t) c in
+      let i : it .at < h .individuals = subst (λ (u : ℕ). it .at < u) same-individuals (it .at-low) in
+      let a : it .one < h .classes = subst (λ (u : ℕ). it .one < u) same-classes (it .one-low) in
+      let b : it .other < h .classes = subst (λ (u : ℕ). it .other < u) same-classes (it .other-low) in
+      f .none-at l (it .at) i (it .one) (it .other) a b (pairs .pairs (it .one) (it .other) a b ∙ it .clash) (sym (type-at (it .at) (it .one) i a) ∙ it .has-one) (sym (type-at (it .at) (it .other) i b) ∙ it .has-other)
 
-      go : Dec (r .other < h .classes) → Two (sizeOf h) t P r × (r .other < h .classes)
-      go (yes l) = (f .two l, l)
-      go (no l) =
-          let i : it .at < h .individuals = subst (λ (u : ℕ). it .at < u) same-individuals (it .at-low) in
-          let a : it .one < h .classes = subst (λ (u : ℕ). it .one < u) same-classes (it .one-low) in
-          let b : it .other < h .classes = subst (λ (u : ℕ). it .other < u) same-classes (it .other-low) in
-          absurd (f .none-at (omega arith) (it .at) i (it .one) (it .other) a b (pairs .pairs (it .one) (it .other) a b ∙ it .clash) (sym (type-at (it .at) (it .one) i a) ∙ it .has-one) (sym (type-at (it .at) (it .other) i b) ∙ it .has-other))
+  -- and where none are, something is denied
+  pub denied-there : {P : List ℕ} {r : Found} → PairsOf (bookOf s) h P → clashes (bookOf s) (knownIn h t) ≡ true → Clashing (sizeOf h) t P r → h .classes ≤ r .other → some (denied (bookOf s)) (knownIn h t) ≡ true
+  unfolding clashes
+  denied-there {P} {r} pairs c f l =
+      ⊎-elim (λ e. absurd (not-found pairs e f l)) (λ e. e) (or-cases (byTypes (bookOf s) (knownIn h t)) (some (denied (bookOf s)) (knownIn h t)) c)
 
   abbrev rowOf : ℕ → ℕ → Row
   rowOf i j = record { rule = 8; statement = none; first = i; second = j; third = none; kind = 2; one = none; two = none; three = none }
@@ -173,16 +174,16 @@ module _ {s O : List ℕ} {h : Counts} {t : List ℕ} {n : ℕ} {l : List ℕ} (
     lower : earlier n (rowOf i j) ≡ true
     lower = earlier-all n (rowOf i j) (before-row n i (pi .low)) (before-row n j (pj .low)) (before-none n)
 
-    clash-of-two : clashes (bookOf s) (named h l (rowOf i j)) ≡ true
+    clash-of-two : byTypes (bookOf s) (named h l (rowOf i j)) ≡ true
     clash-of-two =
         types-clash (bookOf s) top pairs-low marks-below (named h l (rowOf i j)) (r .at) (r .one) (r .other) (rw same-individuals (two .at))
         (has-type (r .at) (r .one) i pi (named h l (rowOf i j)) (named-first h l (rowOf i j)))
         (has-type (r .at) (r .other) j pj (named h l (rowOf i j)) (named-second h l (rowOf i j)))
         (sym (pairs .pairs (r .one) (r .other) (two .one) below) ∙ two .pair)
 
-    by-clash : (Q : Set) → clashes (bookOf s) Q ≡ true → byClash (bookOf s) (rowOf i j) Q ≡ true
+    by-clash : (Q : Set) → byTypes (bookOf s) Q ≡ true → byClash (bookOf s) (rowOf i j) Q ≡ true
     unfolding byClash
-    by-clash Q e = and-intro _ _ (eq-eqb 8 8 refl) (and-intro _ _ (or-left (eqb none none) (ltb none (length (statements (bookOf s)))) (eq-eqb none none refl)) e)
+    by-clash Q e = and-intro _ _ (eq-eqb 8 8 refl) (and-intro _ _ (or-left (eqb none none) (ltb none (length (statements (bookOf s)))) (eq-eqb none none refl)) (or-left (byTypes (bookOf s) Q) (denies (bookOf s) Q) e))
 
     pub clash-put : {m : List ℕ} → RowPut l n (rowOf i j) m → ClashPut (bookOf s) l n m
     clash-put {m} p = record { len = p .len; old = p .old; accepted = yes-row; claims = is }
@@ -191,7 +192,7 @@ module _ {s O : List ℕ} {h : Counts} {t : List ℕ} {n : ℕ} {l : List ℕ} (
         is = ap (claim (bookOf s .counts)) (p .row) ∙ row-claims (bookOf s .counts) i j
 
         follow : follows (bookOf s) (rowOf i j) (named (bookOf s .counts) m (rowOf i j)) clash ≡ true
-        follow = by-clash (named (bookOf s .counts) m (rowOf i j)) (ap (λ (g : Counts). clashes (bookOf s) (named g m (rowOf i j))) (o .counts) ∙ (ap (clashes (bookOf s)) (named-same n l m (p .old) h (rowOf i j) lower) ∙ clash-of-two))
+        follow = by-clash (named (bookOf s .counts) m (rowOf i j)) (ap (λ (g : Counts). byTypes (bookOf s) (named g m (rowOf i j))) (o .counts) ∙ (ap (λ (Q : Set). byTypes (bookOf s) Q) (named-same n l m (p .old) h (rowOf i j) lower) ∙ clash-of-two))
 
         yes-row : accepts (bookOf s) m n ≡ true
         yes-row = accepts-by (bookOf s) m n (rowOf i j) clash (p .row) is lower follow

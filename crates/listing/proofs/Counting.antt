@@ -89,7 +89,7 @@ module _ (T K : List ℕ) where
 heard-all : (s : List ℕ) → heardBook anyone s ≡ bookOf s
 heard-all s = ap (bookWith s) (heedings-all (bookOf s .statements))
 
-module _ {s O : List ℕ} {h : Counts} (o : Open s h O) {u budget : ℕ} {S L K t : List ℕ} (d : Drawn h (heardBook anyone s) budget S L K t u) (spare : used (bookOf s) (conclusions (bookOf s)) ≤ budget) where
+module _ {s O : List ℕ} {h : Counts} (o : Open s h O) {u budget : ℕ} {S L K t : List ℕ} {b : Bool} (d : Drawn h (heardBook anyone s) budget S L K t u b) (spare : used (bookOf s) (conclusions (bookOf s)) ≤ budget) where
   inside : Inside (heardBook anyone s)
   inside = heard-inside anyone o
 

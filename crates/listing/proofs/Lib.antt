@@ -1,6 +1,7 @@
 pub mod Stand
 pub mod Ended
 pub mod Clashes
+pub mod Denials
 pub mod Running
 pub mod Telling
 pub mod Counting

@@ -1,14 +1,16 @@
-// The row of a clash: two types of one individual, whose classes none can have both.
+// The row of a clash: two types of one individual, whose classes none can have both; or else a statement that denies what is known.
 ghost use mathlib.Core.Path.{_≡_};
 ghost use mathlib.Core.Bool.{true};
 ghost use Prim.Native.Nat.{_+_, _*_, _≤_, _<_};
 ghost use lib.ListN.{length};
 ghost use Rattle.rows.specs.Table.{Table};
 ghost use Rattle.rules.specs.Clash.{clashes};
-ghost use Rattle.tables.specs.Open.{bookOf, Open};
-ghost use Rattle.derivation.specs.Tables.{PairsOf};
+ghost use Rattle.tables.specs.Open.{bookOf, sizeOf, Open};
+ghost use Rattle.derivation.specs.Tables.{LabelsOf, PairsOf};
 ghost use Rattle.steps.specs.Written.{knownIn, Listed};
-ghost use Rattle.listing.specs.Clashes.{Partner, Pair, Clashing, ClashPut};
+ghost use Rattle.turns.specs.Turns.{Located};
+ghost use Rattle.listing.specs.Clashes.{Partner, Two, Pair, Clashing, ClashPut};
+use super::deny::put_denial;
 use book::header::Counts;
 use derivation::row::NONE;
 use derivation::row::Row;
@@ -92,8 +94,8 @@ fn find_clash(t: &[u64], size: Size, pairs: &[u64]) -> Found
     }
 }
 
-// Puts the row of a clash behind the first n rows.
-pub fn put_clash(
+// Puts the row of two types that clash behind the first n rows.
+fn put_types(
     book: &[u8],
     offsets: &[usize],
     counts: Counts,
@@ -101,16 +103,16 @@ pub fn put_clash(
     rows: &mut [u32],
     places: &[u32],
     pairs: &[u64],
+    found: Found,
     n: u32,
 )
     requires { ⌜ Listed (now book) counts (now t) n (now rows) ⌝ }
     requires { ⌜ Open (now book) counts (now offsets) ⌝ }
-    requires { ⌜ PairsOf (bookOf (now book)) counts (now pairs) × (2048 ≤ length (now pairs)) × (9 * n + 9 ≤ length (now rows)) ⌝ }
-    requires { ⌜ clashes (bookOf (now book)) (knownIn counts (now t)) ≡ true ⌝ }
+    requires { ⌜ PairsOf (bookOf (now book)) counts (now pairs) × (9 * n + 9 ≤ length (now rows)) ⌝ }
+    requires { ⌜ Two (sizeOf counts) (now t) (now pairs) found × (found .other < counts .classes) ⌝ }
     ensures { λ _. ⌜ ClashPut (bookOf (now (book .entry))) (now (rows .entry)) n (now (rows .exit)) ⌝ }
 {
     let size = size_of(counts);
-    let found = find_clash(t, size, pairs);
     let one = Link {
         field: type_field(size),
         from: found.at,
@@ -135,4 +137,34 @@ pub fn put_clash(
         three: NONE,
     };
     put_row(rows, n, row);
+}
+
+// Puts the row of a clash behind the first n rows.
+pub fn put_clash(
+    book: &[u8],
+    offsets: &[usize],
+    starts: &[usize],
+    counts: Counts,
+    t: &[u64],
+    rows: &mut [u32],
+    places: &[u32],
+    labels: &[u32],
+    pairs: &[u64],
+    n: u32,
+)
+    requires { ⌜ Listed (now book) counts (now t) n (now rows) ⌝ }
+    requires { ⌜ Open (now book) counts (now offsets) ⌝ }
+    requires { ⌜ PairsOf (bookOf (now book)) counts (now pairs) × (2048 ≤ length (now pairs)) × (9 * n + 9 ≤ length (now rows)) ⌝ }
+    requires { ⌜ LabelsOf (bookOf (now book)) counts (now labels) × (counts .individuals ≤ length (now labels)) ⌝ }
+    requires { ⌜ Located (now book) counts (now starts) ⌝ }
+    requires { ⌜ clashes (bookOf (now book)) (knownIn counts (now t)) ≡ true ⌝ }
+    ensures { λ _. ⌜ ClashPut (bookOf (now (book .entry))) (now (rows .entry)) n (now (rows .exit)) ⌝ }
+{
+    let size = size_of(counts);
+    let found = find_clash(t, size, pairs);
+    if found.other < size.classes {
+        put_types(book, offsets, counts, t, rows, places, pairs, found, n);
+        return;
+    }
+    put_denial(book, starts, counts, t, rows, places, labels, n);
 }

@@ -12,7 +12,7 @@ use Rattle.book.specs.declared.header.Counts.{Counts}
 use Rattle.book.specs.declared.statement.SubRolePath.{SubRolePath}
 use Rattle.book.specs.declared.statement.SubRolePath.the-variants.{One, Two, Three}
 use Rattle.book.specs.declared.statement.Axiom.{Axiom}
-use Rattle.book.specs.declared.statement.Axiom.the-variants.{SubClassOf, EquivalentClasses, DisjointClasses, InverseObjectProperties, SubObjectPropertyOf, TransitiveRole, SymmetricRole, FunctionalRole, InverseFunctionalRole, ObjectPropertyDomain, ObjectPropertyRange, SameIndividual, ClassAssertion, ObjectPropertyAssertion}
+use Rattle.book.specs.declared.statement.Axiom.the-variants.{SubClassOf, EquivalentClasses, DisjointClasses, InverseObjectProperties, SubObjectPropertyOf, TransitiveRole, SymmetricRole, FunctionalRole, InverseFunctionalRole, ObjectPropertyDomain, ObjectPropertyRange, SameIndividual, ClassAssertion, ObjectPropertyAssertion, DifferentIndividuals, NegativeObjectPropertyAssertion}
 use Rattle.book.specs.Within.{Every, RoleWithin, Within, PathWithin}
 use Rattle.book.specs.Tree.{Concept, Concepts, Atomic}
 use Rattle.book.specs.Book.{Book, axioms}
@@ -20,10 +20,10 @@ use Rattle.book.specs.Role.{flipped}
 use Rattle.book.specs.declared.role.Role.{Role}
 use Rattle.book.specs.declared.role.Role.the-variants.{Named, Inverse}
 use Rattle.rules.specs.Fact.{edge, type, pair, two}
-use Rattle.rules.specs.Rule.{Set, Obeys, any}
+use Rattle.rules.specs.Rule.{Set, Obeys, any, some}
 use Rattle.rules.specs.Brought.{concept, Value, from, leaves, leavesIn, atomicOf, valueOf, atomics, values}
 use Rattle.rules.specs.Meaning.{told, bring, swap, under, join, oneClass, share, ruleOf, rules, conclusions}
-use Rattle.rules.specs.Clash.{disjointBy, disjoint, typeClash, markerClash, clashes}
+use Rattle.rules.specs.Clash.{disjointBy, disjoint, typeClash, markerClash, deniedBy, denied, clashes}
 use Rattle.rules.specs.World.{World, Thing, leads, Leads, Of, OfAll, Under, Apart, PathUnder, OneFiller, True, Fits, TypeTrue, EdgeTrue, PairTrue}
 use Rattle.rules.specs.Plain.{IsAtomic, anAtomic, Simple, simpleAtomic, simpleTop, simpleValue, Nested, nestedOne, nestedAnd, AllNested, nestedNone, nestedMore, Right, Reach, PlainStatement, Plain}
 use Rattle.rules.proofs.Tests.{false-true, or-none, any-none, some-none, and-intro, every-map, every-and, every-left, every-right, every-swap, from-every}
@@ -272,14 +272,14 @@ module _ (B : Book) (inside : Inside B) where
   pub pair-false : (i j : ℕ) → i < n → j < n → PairTrue W i j → S (pair i j) ≡ true
   pair-false i j k l t = same-head n S classed i j k l (sym (ind-is i k) ∙ (t ∙ ind-is j l))
 
-  -- no disjoint pair stands
+  -- no disjoint pair stands, and nothing is denied
   abbrev Calm : Axiom → Type 0
-  Calm s = (x : ℕ) → x < n → Every (λ p. (S (type x (p .one)) && S (type x (p .other))) ≡ false) (disjointBy B s)
+  Calm s = ((x : ℕ) → x < n → Every (λ p. (S (type x (p .one)) && S (type x (p .other))) ≡ false) (disjointBy B s)) × Every (λ k. S k ≡ false) (deniedBy s)
 
   plain-true : (s : Axiom) → PlainStatement B s → Within h s → Calm s → Obeys (ruleOf B s) S → True W B s
   plain-true (SubClassOf c d) p w k o = right-true c d (p .0) (p .1) o
   plain-true (EquivalentClasses c d) p w k o = (right-true c d (p .0) (atomic-right (concept B d) (p .1)) (o .0), right-true d c (p .1) (atomic-right (concept B c) (p .0)) (o .1))
-  plain-true (DisjointClasses c d) p w k o = apart-true c d (p .0) (p .1) k
+  plain-true (DisjointClasses c d) p w k o = apart-true c d (p .0) (p .1) (k .0)
   plain-true (InverseObjectProperties ρ σ) p w k o = λ x y tx ty. (swap-true ρ σ (w .0) (o .0) x y tx ty, swap-true σ ρ (w .1) (o .1) y x ty tx)
   plain-true (SubObjectPropertyOf q τ) p w k o = path-true q τ (w .0) o
   plain-true (TransitiveRole ρ) p w k o = path-true (Two ρ ρ) ρ (w, w) o
@@ -301,14 +301,19 @@ module _ (B : Book) (inside : Inside B) where
       (every-map _ (AValue (W .ind i)) (λ v f. (f .0, edge-to (v .role) i (W .ind i) (v .to) (v .to) (f .0 .0) (w .1) (ind-lt i (w .1)) (f .0 .1) (f .0 .1) (to-ind i (w .1)) (class-self n S classed (v .to) (f .0 .1)) (f .1))) (values (concept B c)) (every-and _ _ (values (concept B c)) (values-in (concept B c) (inside .concepts c)) (obeys-every S _ (values (concept B c)) (o .1))))
   plain-true (ObjectPropertyAssertion ρ a b) p w k o =
       of-edge ρ (W .ind a) (W .ind b) (edge-to ρ a (W .ind a) b (W .ind b) (w .0) (w .1) (ind-lt a (w .1)) (w .2) (ind-lt b (w .2)) (to-ind a (w .1)) (to-ind b (w .2)) o)
+  plain-true (DifferentIndividuals a b) p w k o = λ e. false-true (sym (k .1 .0) ∙ pair-false a b (w .0) (w .1) e)
+  plain-true (NegativeObjectPropertyAssertion ρ a b) p w k o = λ e. false-true (sym (k .1 .0) ∙ leads-false ρ a b (w .0) (w .1) (w .2) e)
 
   -- without a clash the world fits
   calm-every : clashes B S ≡ false → Every Calm (axioms B)
   unfolding clashes typeClash
   calm-every q =
-      every-map (λ s. (k : (x : ℕ) × (x < n)) → Every (λ p. (S (type (k .0) (p .one)) && S (type (k .0) (p .other))) ≡ false) (disjointBy B s)) Calm (λ s f x l. f (x, l)) (axioms B)
+      let z = or-none (any n (λ x. typeClash B S x || markerClash B S x)) (some (denied B) S) q in
+      every-and _ _ (axioms B)
+      (every-map (λ s. (k : (x : ℕ) × (x < n)) → Every (λ p. (S (type (k .0) (p .one)) && S (type (k .0) (p .other))) ≡ false) (disjointBy B s)) _ (λ s f x l. f (x, l)) (axioms B)
       (every-swap (λ (k : (x : ℕ) × (x < n)) s. Every (λ p. (S (type (k .0) (p .one)) && S (type (k .0) (p .other))) ≡ false) (disjointBy B s)) (axioms B)
-      (λ k. from-every _ (disjointBy B) (axioms B) (some-none _ (disjoint B) (or-none (typeClash B S (k .0)) (markerClash B S (k .0)) (any-none n (λ x. typeClash B S x || markerClash B S x) q (k .0) (k .1)) .0))))
+      (λ k. from-every _ (disjointBy B) (axioms B) (some-none _ (disjoint B) (or-none (typeClash B S (k .0)) (markerClash B S (k .0)) (any-none n (λ x. typeClash B S x || markerClash B S x) (z .0) (k .0) (k .1)) .0)))))
+      (from-every (λ k. S k ≡ false) deniedBy (axioms B) (some-none S (denied B) (z .1)))
 
   pub canonical-fits : Plain B → clashes B S ≡ false → Fits W B
   unfolding Fits Plain

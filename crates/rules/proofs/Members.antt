@@ -6,7 +6,7 @@ use mathlib.Core.Bool.{Bool, true, false, not, _&&_, _||_}
 use mathlib.Core.List.{List, [], _∷_}
 use lib.ListN.{length}
 use Rattle.book.specs.declared.statement.Axiom.{Axiom}
-use Rattle.book.specs.declared.statement.Axiom.the-variants.{SubClassOf, EquivalentClasses, DisjointClasses, InverseObjectProperties, SubObjectPropertyOf, TransitiveRole, SymmetricRole, FunctionalRole, InverseFunctionalRole, ObjectPropertyDomain, ObjectPropertyRange, SameIndividual, ClassAssertion, ObjectPropertyAssertion}
+use Rattle.book.specs.declared.statement.Axiom.the-variants.{SubClassOf, EquivalentClasses, DisjointClasses, InverseObjectProperties, SubObjectPropertyOf, TransitiveRole, SymmetricRole, FunctionalRole, InverseFunctionalRole, ObjectPropertyDomain, ObjectPropertyRange, SameIndividual, ClassAssertion, ObjectPropertyAssertion, DifferentIndividuals, NegativeObjectPropertyAssertion}
 use Rattle.book.specs.declared.statement.Statement.{Statement}
 use Rattle.book.specs.declared.role.Role.{Role}
 use Rattle.book.specs.declared.role.Role.the-variants.{Named, Inverse}
@@ -19,7 +19,7 @@ use Rattle.rules.specs.Rule.{Set, Rule, Obeys, any, some, every}
 use Rattle.rules.specs.Brought.{from}
 use Rattle.rules.specs.ToldSame.{sameBy, toldSame, label, same}
 use Rattle.rules.specs.Same.{functionalBy, functional, samePair}
-use Rattle.rules.specs.Clash.{disjointBy, disjoint, marksBy, marked, typeClash, bothMarked, markerClash, clashes, Mark}
+use Rattle.rules.specs.Clash.{disjointBy, disjoint, marksBy, marked, typeClash, bothMarked, markerClash, deniedBy, denied, clashes, Mark}
 use Rattle.rules.specs.Meaning.{ruleOf, sharing, rules, conclusions}
 use Rattle.rules.specs.Lists.{types, edges, pairs, used}
 use Rattle.rules.specs.Ends.{outcomeFrom}
@@ -81,6 +81,8 @@ module _ (B : Book) (m : ℕ) (zs : List Statement) (to : (P : Axiom → Type 0)
   rule-same (SameIndividual i j) = refl
   rule-same (ClassAssertion c i) = refl
   rule-same (ObjectPropertyAssertion r i j) = refl
+  rule-same (DifferentIndividuals i j) = refl
+  rule-same (NegativeObjectPropertyAssertion r i j) = refl
 
   disjoint-same : (x : Axiom) → disjointBy other x ≡ disjointBy B x
   disjoint-same (SubClassOf c d) = refl
@@ -97,6 +99,8 @@ module _ (B : Book) (m : ℕ) (zs : List Statement) (to : (P : Axiom → Type 0)
   disjoint-same (SameIndividual i j) = refl
   disjoint-same (ClassAssertion c i) = refl
   disjoint-same (ObjectPropertyAssertion r i j) = refl
+  disjoint-same (DifferentIndividuals i j) = refl
+  disjoint-same (NegativeObjectPropertyAssertion r i j) = refl
 
   marks-same : (x : Axiom) → marksBy other x ≡ marksBy B x
   marks-same (SubClassOf c d) = refl
@@ -113,6 +117,8 @@ module _ (B : Book) (m : ℕ) (zs : List Statement) (to : (P : Axiom → Type 0)
   marks-same (SameIndividual i j) = refl
   marks-same (ClassAssertion c i) = refl
   marks-same (ObjectPropertyAssertion r i j) = refl
+  marks-same (DifferentIndividuals i j) = refl
+  marks-same (NegativeObjectPropertyAssertion r i j) = refl
 
   obeys-to : (X : Set) → Obeys (rules B) X → Obeys (rules other) X
   unfolding rules
@@ -160,7 +166,10 @@ module _ (B : Book) (m : ℕ) (zs : List Statement) (to : (P : Axiom → Type 0)
 
     pub clashes-same : clashes other S ≡ clashes B S
     unfolding clashes
-    clashes-same = ap (any (B .counts .individuals)) (fun-ext (λ x. ap₂ (λ (a : Bool) (b : Bool). a || b) (type-clash-same x) (marker-clash-same x)))
+    clashes-same =
+        ap₂ (λ (a : Bool) (b : Bool). a || b)
+        (ap (any (B .counts .individuals)) (fun-ext (λ x. ap₂ (λ (a : Bool) (b : Bool). a || b) (type-clash-same x) (marker-clash-same x))))
+        (sym (some-same (axioms B) (bodies zs) to back deniedBy S))
 
     pub pairs-same : pairs other S ≡ pairs B S
     unfolding pairs

@@ -13,7 +13,7 @@ use Rattle.book.specs.Tree.{Atomic, Top, Nominal, Some, And, none, more, partTr
 use Rattle.book.specs.Book.{Book, concepts, book, accepted, decode}
 use Rattle.book.specs.declared.role.Role.the-variants.{Named, Inverse}
 use Rattle.book.specs.declared.statement.SubRolePath.the-variants.{One}
-use Rattle.book.specs.declared.statement.Axiom.the-variants.{SubClassOf, EquivalentClasses, DisjointClasses, SubObjectPropertyOf, ObjectPropertyDomain, FunctionalRole, SameIndividual, ClassAssertion, ObjectPropertyAssertion}
+use Rattle.book.specs.declared.statement.Axiom.the-variants.{SubClassOf, EquivalentClasses, DisjointClasses, SubObjectPropertyOf, ObjectPropertyDomain, FunctionalRole, SameIndividual, ClassAssertion, ObjectPropertyAssertion, DifferentIndividuals, NegativeObjectPropertyAssertion}
 use Rattle.rules.specs.Ends.{Finished, Outcome, outcome}
 use Rattle.rules.specs.Plain.{anAtomic, simpleAtomic, simpleTop, simpleValue, nestedOne, nestedAnd, nestedNone, nestedMore, Plain}
 use Rattle.rules.specs.Demand.{UnlistedFalse}
@@ -23,7 +23,7 @@ use Rattle.rules.proofs.Demand.{demand}
 
 abbrev pub B : Book
 B = record {
-  counts = record { classes = 4; roles = 2; individuals = 4; concepts = 13; statements = 10 };
+  counts = record { classes = 4; roles = 2; individuals = 4; concepts = 13; statements = 12 };
   concepts =
       Atomic 0 ∷ Atomic 1 ∷ Atomic 2 ∷ Atomic 3 ∷ Top ∷ Nominal 2 ∷ Some (Named 1) (Nominal 2)
       ∷ And (more Top (more (Some (Named 1) (Nominal 2)) none))
@@ -44,6 +44,8 @@ B = record {
       ∷ bare (ClassAssertion 10 0)
       ∷ bare (ObjectPropertyAssertion (Named 0) 0 2)
       ∷ bare (ObjectPropertyAssertion (Named 0) 1 3)
+      ∷ bare (DifferentIndividuals 0 2)
+      ∷ bare (NegativeObjectPropertyAssertion (Named 0) 2 0)
       ∷ [];
 }
 
@@ -69,7 +71,7 @@ plain = (
               tt,
               (
                 nestedAnd (nestedMore (nestedAnd (nestedMore (nestedOne (simpleAtomic 0)) nestedNone)) (nestedMore (nestedOne simpleTop) nestedNone)),
-                (tt, (tt, tt)),
+                (tt, (tt, (tt, (tt, tt)))),
               ),
             ),
           ),

@@ -1,4 +1,5 @@
--- "Clash": a class and another that is told to be disjoint from it, on one individual; or markers that no one filler can have.
+-- "Clash": a class and another that is told to be disjoint from it, on one individual; markers that no one filler can have; or a fact that a statement
+-- denies.
 use Prim.Native.Nat.{ℕ}
 use mathlib.Core.Bool.{Bool, false, not, _&&_, _||_}
 use mathlib.Core.List.{List, [], _∷_, _++_}
@@ -8,8 +9,8 @@ use Rattle.book.specs.Book.{Book, axioms}
 use Rattle.book.specs.declared.role.Role.{Role}
 use Rattle.book.specs.declared.role.Role.the-variants.{Named, Inverse}
 use Rattle.book.specs.declared.statement.Axiom.{Axiom}
-use Rattle.book.specs.declared.statement.Axiom.the-variants.{SubClassOf, EquivalentClasses, DisjointClasses, InverseObjectProperties, SubObjectPropertyOf, TransitiveRole, SymmetricRole, FunctionalRole, InverseFunctionalRole, ObjectPropertyDomain, ObjectPropertyRange, SameIndividual, ClassAssertion, ObjectPropertyAssertion}
-use Rattle.rules.specs.Fact.{type, Two, two}
+use Rattle.book.specs.declared.statement.Axiom.the-variants.{SubClassOf, EquivalentClasses, DisjointClasses, InverseObjectProperties, SubObjectPropertyOf, TransitiveRole, SymmetricRole, FunctionalRole, InverseFunctionalRole, ObjectPropertyDomain, ObjectPropertyRange, SameIndividual, ClassAssertion, ObjectPropertyAssertion, DifferentIndividuals, NegativeObjectPropertyAssertion}
+use Rattle.rules.specs.Fact.{edge, type, pair, Two, two}
 use Rattle.rules.specs.Rule.{Set, any, some}
 use Rattle.rules.specs.Brought.{concept, from, atomicOf, markers}
 use Rattle.rules.specs.Same.{functional}
@@ -30,6 +31,8 @@ disjointBy B (ObjectPropertyRange r c) = []
 disjointBy B (SameIndividual a b) = []
 disjointBy B (ClassAssertion c i) = []
 disjointBy B (ObjectPropertyAssertion r a b) = []
+disjointBy B (DifferentIndividuals a b) = []
+disjointBy B (NegativeObjectPropertyAssertion r a b) = []
 
 abbrev pub disjoint : Book → List Two
 disjoint B = from (axioms B) (disjointBy B)
@@ -60,6 +63,8 @@ marksBy B (ObjectPropertyRange r c) = []
 marksBy B (SameIndividual a b) = []
 marksBy B (ClassAssertion c i) = []
 marksBy B (ObjectPropertyAssertion r a b) = []
+marksBy B (DifferentIndividuals a b) = []
+marksBy B (NegativeObjectPropertyAssertion r a b) = []
 
 abbrev pub marks : Book → List Mark
 marks B = from (axioms B) (marksBy B)
@@ -81,5 +86,31 @@ bothMarked B S x p (Inverse r) = false
 unfoldable pub markerClash : Book → Set → ℕ → Bool
 markerClash B S x = some (disjoint B) λ p. not (eqb (p .one) (p .other)) && some (functional B) (bothMarked B S x p)
 
+-- the fact that a statement denies: that two are in one class, or an edge
+abbrev pub deniedBy : Axiom → List ℕ
+deniedBy (SubClassOf c d) = []
+deniedBy (EquivalentClasses c d) = []
+deniedBy (DisjointClasses c d) = []
+deniedBy (InverseObjectProperties r s) = []
+deniedBy (SubObjectPropertyOf p t) = []
+deniedBy (TransitiveRole r) = []
+deniedBy (SymmetricRole r) = []
+deniedBy (FunctionalRole r) = []
+deniedBy (InverseFunctionalRole r) = []
+deniedBy (ObjectPropertyDomain r c) = []
+deniedBy (ObjectPropertyRange r c) = []
+deniedBy (SameIndividual a b) = []
+deniedBy (ClassAssertion c i) = []
+deniedBy (ObjectPropertyAssertion r a b) = []
+deniedBy (DifferentIndividuals a b) = pair a b ∷ []
+deniedBy (NegativeObjectPropertyAssertion r a b) = edge r a b ∷ []
+
+abbrev pub denied : Book → List ℕ
+denied B = from (axioms B) deniedBy
+
+-- types of one individual that clash
+abbrev pub byTypes : Book → Set → Bool
+byTypes B S = any (B .counts .individuals) λ x. typeClash B S x || markerClash B S x
+
 unfoldable pub clashes : Book → Set → Bool
-clashes B S = any (B .counts .individuals) λ x. typeClash B S x || markerClash B S x
+clashes B S = byTypes B S || some (denied B) S

@@ -59,7 +59,7 @@ fn small(
     let mut chains = [0u8; 256];
     let mut labels = [0u32; 16];
     let mut leaves = [0u32; 64];
-    let used = draw(
+    let drawn = draw(
         book,
         offsets,
         task,
@@ -70,7 +70,17 @@ fn small(
         &mut labels,
         &mut t,
     );
-    read_off(&t, task, &says, &leaves, &labels, used, types, edges, pairs)
+    read_off(
+        &t,
+        task,
+        &says,
+        &leaves,
+        &labels,
+        drawn,
+        types,
+        edges,
+        pairs,
+    )
 }
 
 // As many rows of links as t has, and of all else as many as any book asks for.
@@ -96,7 +106,7 @@ fn large(
     let mut chains = [0u8; 16384];
     let mut labels = [0u32; 512];
     let mut leaves = [0u32; 4096];
-    let used = draw(
+    let drawn = draw(
         book,
         offsets,
         task,
@@ -107,7 +117,7 @@ fn large(
         &mut labels,
         t,
     );
-    read_off(t, task, &says, &leaves, &labels, used, types, edges, pairs)
+    read_off(t, task, &says, &leaves, &labels, drawn, types, edges, pairs)
 }
 
 // At most 2,048 rows of links.

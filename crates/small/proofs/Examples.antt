@@ -21,9 +21,9 @@ front n = 0x1F ∷ 1 ∷ 0 ∷ 1 ∷ 0 ∷ 2 ∷ 0 ∷ 1 ∷ 0 ∷ n ∷ 0 ∷ 2
 -- class 0 under class 0
 second : entryAt smallBooks 1 ≡ there (front 1 ++ (1 ∷ 0x30 ∷ 0 ∷ 0 ∷ 0 ∷ 0 ∷ 0 ∷ []))
 unfolding bookOf headerBytes statementBytes statementsBytes smallStatements axiomOf pathOf roleOf
-second = let l : 0 < 61 = omega arith in stands-entry 1 _ (one l)
+second = let l : 0 < 73 = omega arith in stands-entry 1 _ (one l)
 
--- the inverse of role 0 leads 1 to 1, told twice
-last : entryAt smallBooks 3782 ≡ there (front 2 ++ (14 ∷ 0xC1 ∷ 0 ∷ 1 ∷ 0 ∷ 1 ∷ 0 ∷ 1 ∷ 0 ∷ 14 ∷ 0xC1 ∷ 0 ∷ 1 ∷ 0 ∷ 1 ∷ 0 ∷ 1 ∷ 0 ∷ []))
+-- that the inverse of role 0 leads 1 to 1, denied twice
+last : entryAt smallBooks 5402 ≡ there (front 2 ++ (16 ∷ 0xC1 ∷ 0 ∷ 1 ∷ 0 ∷ 1 ∷ 0 ∷ 1 ∷ 0 ∷ 16 ∷ 0xC1 ∷ 0 ∷ 1 ∷ 0 ∷ 1 ∷ 0 ∷ 1 ∷ 0 ∷ []))
 unfolding bookOf headerBytes statementBytes statementsBytes smallStatements axiomOf pathOf roleOf
-last = let l : 60 < 61 = omega arith in stands-entry 3782 _ (two l l)
+last = let l : 72 < 73 = omega arith in stands-entry 5402 _ (two l l)

@@ -65,7 +65,7 @@ places n (x ∷ []) l w z =
 places n (x ∷ y ∷ []) l w z =
     let r = is-statement-at n x (w .0) (z .0) in
     let t = is-statement-at n y (w .1 .0) (z .1 .0) in
-    (62 + (r .0 * 61 + t .0), subst₂ (λ (a : Statement) (b : Statement). Stands (62 + (r .0 * 61 + t .0)) (a ∷ b ∷ [])) (r .2) (t .2) (two (r .1) (t .1)))
+    (74 + (r .0 * 73 + t .0), subst₂ (λ (a : Statement) (b : Statement). Stands (74 + (r .0 * 73 + t .0)) (a ∷ b ∷ [])) (r .2) (t .2) (two (r .1) (t .1)))
 places n (x ∷ y ∷ v ∷ xs) l w z = absurd (omega arith)
 
 pub small-complete : (s : List ℕ) → Bytes s → Small s → (p : ℕ) × (entryAt smallBooks p ≡ there s)
@@ -86,18 +86,18 @@ small-complete s bytes small =
 framed : (n : ℕ) (a b : List ℕ) → apart a b ≡ true → apart (headerBytes (smallCounts n) ++ (atomicBytes ++ a)) (headerBytes (smallCounts n) ++ (atomicBytes ++ b)) ≡ true
 framed n a b t = apart-behind (headerBytes (smallCounts n)) (atomicBytes ++ a) (atomicBytes ++ b) (apart-behind atomicBytes a b t)
 
-ones-apart : (i j : ℕ) → i < j → j < 61 → apart (bookOf (statementAt i ∷ [])) (bookOf (statementAt j ∷ [])) ≡ true
+ones-apart : (i j : ℕ) → i < j → j < 73 → apart (bookOf (statementAt i ∷ [])) (bookOf (statementAt j ∷ [])) ≡ true
 unfolding bookOf statementsBytes
 ones-apart i j a b = framed 1 (statementBytes (statementAt i) ++ []) (statementBytes (statementAt j) ++ []) (apart-front (statementBytes (statementAt i)) (statementBytes (statementAt j)) [] [] (statement-at-apart i j a b))
 
-first-apart : (i j k m : ℕ) → i < k → k < 61 → apart (bookOf (statementAt i ∷ statementAt j ∷ [])) (bookOf (statementAt k ∷ statementAt m ∷ [])) ≡ true
+first-apart : (i j k m : ℕ) → i < k → k < 73 → apart (bookOf (statementAt i ∷ statementAt j ∷ [])) (bookOf (statementAt k ∷ statementAt m ∷ [])) ≡ true
 unfolding bookOf statementsBytes
 first-apart i j k m a b =
     let x = statementBytes (statementAt j) ++ [] in
     let y = statementBytes (statementAt m) ++ [] in
     framed 2 (statementBytes (statementAt i) ++ x) (statementBytes (statementAt k) ++ y) (apart-front (statementBytes (statementAt i)) (statementBytes (statementAt k)) x y (statement-at-apart i k a b))
 
-second-apart : (i j m : ℕ) → j < m → m < 61 → apart (bookOf (statementAt i ∷ statementAt j ∷ [])) (bookOf (statementAt i ∷ statementAt m ∷ [])) ≡ true
+second-apart : (i j m : ℕ) → j < m → m < 73 → apart (bookOf (statementAt i ∷ statementAt j ∷ [])) (bookOf (statementAt i ∷ statementAt m ∷ [])) ≡ true
 unfolding bookOf statementsBytes
 second-apart i j m a b =
     let c = statementBytes (statementAt i) in

@@ -1,4 +1,4 @@
--- The statements: there are 61, they keep to the counts, their bytes ascend, and every statement that keeps to the counts and has neither source nor days is one of them.
+-- The statements: there are 73, they keep to the counts, their bytes ascend, and every statement that keeps to the counts and has neither source nor days is one of them.
 use Prim.Native.Nat.{ℕ, zero, suc, _-_, _≤_, _<_}
 use native.Mathlib.Omega.{arith}
 use mathlib.Core.Path.{_≡_, refl, sym, ap, _∙_, subst}
@@ -12,7 +12,7 @@ use Rattle.book.specs.declared.statement.Statement.{Statement}
 use Rattle.book.specs.declared.role.Role.{Role}
 use Rattle.book.specs.declared.role.Role.the-variants.{Named, Inverse}
 use Rattle.book.specs.declared.statement.SubRolePath.the-variants.{One, Two, Three}
-use Rattle.book.specs.declared.statement.Axiom.the-variants.{SubClassOf, EquivalentClasses, DisjointClasses, InverseObjectProperties, SubObjectPropertyOf, TransitiveRole, SymmetricRole, FunctionalRole, InverseFunctionalRole, ObjectPropertyDomain, ObjectPropertyRange, SameIndividual, ClassAssertion, ObjectPropertyAssertion}
+use Rattle.book.specs.declared.statement.Axiom.the-variants.{SubClassOf, EquivalentClasses, DisjointClasses, InverseObjectProperties, SubObjectPropertyOf, TransitiveRole, SymmetricRole, FunctionalRole, InverseFunctionalRole, ObjectPropertyDomain, ObjectPropertyRange, SameIndividual, ClassAssertion, ObjectPropertyAssertion, DifferentIndividuals, NegativeObjectPropertyAssertion}
 use Rattle.book.specs.Within.{Within, StatementWithin}
 use Rattle.book.specs.Read.{Read, value, refusal}
 use Rattle.book.specs.Role.{roleOf, roleId}
@@ -26,7 +26,7 @@ use Rattle.small.specs.Statements.{smallCounts, smallStatements, spare, 
 use Rattle.small.specs.Laying.{fieldBytes, rowOf, rowBytes}
 use Rattle.small.proofs.Order.{apart}
 
-pub statements-count : length smallStatements ≡ 61
+pub statements-count : length smallStatements ≡ 73
 unfolding smallStatements axiomOf pathOf roleOf
 statements-count = refl
 
@@ -63,7 +63,7 @@ read-within : (n : ℕ) (x : Statement) (r : Read Statement) → statement (smal
 read-within n x (value y e) q t = subst (StatementWithin (smallCounts n)) (sym (repeats-equal x y t)) (statement-within (statementBytes x) (smallCounts n) 0 y e q)
 read-within n x (refusal m) q t = false-true t
 
-pub statement-at-within : (n i : ℕ) → i < 61 → StatementWithin (smallCounts n) (statementAt i)
+pub statement-at-within : (n i : ℕ) → i < 73 → StatementWithin (smallCounts n) (statementAt i)
 statement-at-within n i l =
     let x = statementAt i in
     read-within n x (statement (smallCounts n) (statementBytes x) 0) refl (all-at (reads n) spare smallStatements i (all-read n) (omega (arith, statements-count)))
@@ -73,7 +73,7 @@ all-bare : all smallStatements (λ x. repeats x (bare (x .body))) ≡ true
 unfolding smallStatements axiomOf pathOf roleOf repeats
 all-bare = refl
 
-pub statement-at-bare : (i : ℕ) → i < 61 → statementAt i ≡ bare (statementAt i .body)
+pub statement-at-bare : (i : ℕ) → i < 73 → statementAt i ≡ bare (statementAt i .body)
 statement-at-bare i l = repeats-equal (statementAt i) (bare (statementAt i .body)) (all-at (λ x. repeats x (bare (x .body))) spare smallStatements i all-bare (omega (arith, statements-count)))
 
 -- the bytes of each
@@ -111,7 +111,7 @@ ascends-at (x ∷ l) zero (suc j) t a b = all-at (apart x) [] l j (and-true (all
 ascends-at (x ∷ l) (suc i) zero t a b = absurd (omega arith)
 ascends-at (x ∷ l) (suc i) (suc j) t a b = ascends-at l i j (and-true (all l (apart x)) (ascends l) t .1) (omega arith) (omega arith)
 
-module _ (i : ℕ) (l : i < 61) where
+module _ (i : ℕ) (l : i < 73) where
   inside : i < length smallStatements
   inside = omega (arith, statements-count)
 
@@ -123,7 +123,7 @@ module _ (i : ℕ) (l : i < 61) where
       let t = all-at (λ s. ltb (length s) 12) [] (bytesEach smallStatements) i short (omega (arith, inside, bytes-length smallStatements)) in
       omega (arith, ltb-true (length (statementBytes (statementAt i))) 12 (rw at at t))
 
-pub statement-at-apart : (i j : ℕ) → i < j → j < 61 → apart (statementBytes (statementAt i)) (statementBytes (statementAt j)) ≡ true
+pub statement-at-apart : (i j : ℕ) → i < j → j < 73 → apart (statementBytes (statementAt i)) (statementBytes (statementAt j)) ≡ true
 statement-at-apart i j a b =
     let t = ascends-at (bytesEach smallStatements) i j ascending a (omega (arith, inside j b, bytes-length smallStatements)) in
     rw (at i (omega arith), at j b) at t
@@ -151,7 +151,7 @@ row-bytes-at d [] i l = absurd (omega arith)
 row-bytes-at d (x ∷ xs) zero l = refl
 row-bytes-at d (x ∷ xs) (suc i) l = row-bytes-at d xs i (omega arith)
 
-pub row-bytes : (i : ℕ) → i < 61 → rowBytes (rowOf (statementAt i)) ≡ statementBytes (statementAt i)
+pub row-bytes : (i : ℕ) → i < 73 → rowBytes (rowOf (statementAt i)) ≡ statementBytes (statementAt i)
 row-bytes i l = sym (row-bytes-at spare smallStatements i (inside i l)) ∙ ap (λ (b : List (List ℕ)). getD b i []) rows-bytes ∙ at i l
 
 -- every statement that keeps to these counts is one of them: a role is the named one or its inverse, an individual 0 or 1, the concept 0
@@ -214,8 +214,14 @@ member n (ObjectPropertyAssertion r i j) w =
   where
     two : (r : Role) → Member (ObjectPropertyAssertion r 0 0) → Member (ObjectPropertyAssertion r 0 1) → Member (ObjectPropertyAssertion r 1 0) → Member (ObjectPropertyAssertion r 1 1) → Member (ObjectPropertyAssertion r i j)
     two r a b c d = two-individuals (λ i. Member (ObjectPropertyAssertion r i j)) (two-individuals (λ j. Member (ObjectPropertyAssertion r 0 j)) a b j (w .2)) (two-individuals (λ j. Member (ObjectPropertyAssertion r 1 j)) c d j (w .2)) i (w .1)
+member n (DifferentIndividuals i j) w = two-individuals (λ i. Member (DifferentIndividuals i j)) (two-individuals (λ j. Member (DifferentIndividuals 0 j)) refl refl j (w .1)) (two-individuals (λ j. Member (DifferentIndividuals 1 j)) refl refl j (w .1)) i (w .0)
+member n (NegativeObjectPropertyAssertion r i j) w =
+    one-role (λ r. Member (NegativeObjectPropertyAssertion r i j)) (two (Named 0) refl refl refl refl) (two (Inverse 0) refl refl refl refl) r (w .0)
+  where
+    two : (r : Role) → Member (NegativeObjectPropertyAssertion r 0 0) → Member (NegativeObjectPropertyAssertion r 0 1) → Member (NegativeObjectPropertyAssertion r 1 0) → Member (NegativeObjectPropertyAssertion r 1 1) → Member (NegativeObjectPropertyAssertion r i j)
+    two r a b c d = two-individuals (λ i. Member (NegativeObjectPropertyAssertion r i j)) (two-individuals (λ j. Member (NegativeObjectPropertyAssertion r 0 j)) a b j (w .2)) (two-individuals (λ j. Member (NegativeObjectPropertyAssertion r 1 j)) c d j (w .2)) i (w .1)
 
-pub is-statement-at : (n : ℕ) (x : Statement) → StatementWithin (smallCounts n) x → x ≡ bare (x .body) → (i : ℕ) × (i < 61) × (statementAt i ≡ x)
+pub is-statement-at : (n : ℕ) (x : Statement) → StatementWithin (smallCounts n) x → x ≡ bare (x .body) → (i : ℕ) × (i < 73) × (statementAt i ≡ x)
 is-statement-at n x w e =
     let r = found spare smallStatements (bare (x .body)) (member n (x .body) (w .body)) in
     (r .0, omega (arith, r .1, statements-count), r .2 ∙ sym e)

@@ -55,14 +55,14 @@ fn front(statements: u8) -> Laid
 }
 
 fn book_of_one(i: usize) -> Laid
-    requires { ⌜ i < 61 ⌝ }
+    requires { ⌜ i < 73 ⌝ }
     ensures { λ r. ⌜ r ≡ laid (bookOf (statementAt i ∷ [])) ⌝ }
 {
     put_statement(front(1), i)
 }
 
 fn book_of_two(i: usize, j: usize) -> Laid
-    requires { ⌜ (i < 61) × (j < 61) ⌝ }
+    requires { ⌜ (i < 73) × (j < 73) ⌝ }
     ensures { λ r. ⌜ r ≡ laid (bookOf (statementAt i ∷ statementAt j ∷ [])) ⌝ }
 {
     put_statement(put_statement(front(2), i), j)
@@ -79,19 +79,19 @@ fn handed(book: Laid) -> SmallBook
     }
 }
 
-// The book at a position of the list, or none, for every number: there is 1 book of no statement, 61 are of one, and 61 * 61 of two.
+// The book at a position of the list, or none, for every number: there is 1 book of no statement, 73 are of one, and 73 * 73 of two.
 pub fn small_book(position: u64) -> SmallBook
     ensures { λ r. ⌜ r ≡ byValue (entryAt smallBooks position) ⌝ }
 {
     if position == 0 {
         return handed(bare());
     }
-    if position <= 61 {
+    if position <= 73 {
         return handed(book_of_one((position - 1) as usize));
     }
-    if position < 3783 {
-        let pair = (position - 62) as usize;
-        return handed(book_of_two(pair / 61, pair % 61));
+    if position < 5403 {
+        let pair = (position - 74) as usize;
+        return handed(book_of_two(pair / 73, pair % 73));
     }
     SmallBook {
         bytes: [0u8; 37],

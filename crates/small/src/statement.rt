@@ -9,7 +9,7 @@ use super::laid::Laid;
 use super::laid::push;
 
 // A statement is a row of three bytes: its kind, its map, and its fields, which are 0 or 1, at the bits that the map has for them.
-const STATEMENTS: [u32; 61] = [
+const STATEMENTS: [u32; 73] = [
     0x013000, // SubClassOf
     0x023000, // EquivalentClasses
     0x033000, // DisjointClasses
@@ -71,6 +71,18 @@ const STATEMENTS: [u32; 61] = [
     0x0EC181,
     0x0EC141,
     0x0EC1C1,
+    0x0FC000, // DifferentIndividuals
+    0x0FC080,
+    0x0FC040,
+    0x0FC0C0,
+    0x10C100, // NegativeObjectPropertyAssertion
+    0x10C180,
+    0x10C140,
+    0x10C1C0,
+    0x10C101,
+    0x10C181,
+    0x10C141,
+    0x10C1C1,
 ];
 
 // The field of the lowest bit, if it is set.
@@ -115,7 +127,7 @@ fn put_row(book: Laid, row: u32) -> Laid
 
 // The row of statement i.
 fn row_at(i: usize) -> u32
-    requires { ⌜ i < 61 ⌝ }
+    requires { ⌜ i < 73 ⌝ }
     ensures { λ r. ⌜ r ≡ rowOf (statementAt i) ⌝ }
 {
     let rows = STATEMENTS;
@@ -124,7 +136,7 @@ fn row_at(i: usize) -> u32
 
 // Statement i behind the bytes so far.
 pub fn put_statement(book: Laid, i: usize) -> Laid
-    requires { ⌜ (i < 61) × (book .length + 11 ≤ 37) ⌝ }
+    requires { ⌜ (i < 73) × (book .length + 11 ≤ 37) ⌝ }
     ensures { λ r. ⌜ r ≡ added book (statementBytes (statementAt i)) ⌝ }
 {
     put_row(book, row_at(i))

@@ -1,6 +1,6 @@
 -- How complete tables end: the outcome that is read off them, and the outcome that an answer and three lists are.
 use Prim.Native.Nat.{ℕ, _-_, _*_}
-use mathlib.Core.Bool.{_&&_}
+use mathlib.Core.Bool.{Bool, _||_, _&&_}
 use mathlib.Core.List.{List}
 use lib.ListN.{length, getD}
 use lib.Dec.{ltb, eqb}
@@ -39,10 +39,10 @@ listed z t K ts es ps =
       pairs = filled (entries2 (samePairs (z .individuals) K)) (length ps);
     }
 
--- the outcome of tables that are complete, within the budget: clash, refusal 11, or finished
+-- the outcome of tables that are complete, within the budget: clash, of the tables or because a statement denies (d), refusal 11, or finished
 abbrev pub finishing : Size → List ℕ → List ℕ → List ℕ → List ℕ → List ℕ → Outcome
 finishing z t K ts es ps = pick (ltb (length ps) (2 * length (samePairs (z .individuals) K))) (cleared ts es ps (Refused 11)) (listed z t K ts es ps)
 
-unfoldable pub concluded : Layout → List ℕ → List ℕ → List ℕ → List ℕ → List ℕ → List ℕ → List ℕ → Outcome
-concluded l t S L K ts es ps =
-    pick (clashIn l t S L) (cleared ts es ps (Clash (length (typesOf (l .size) t)) (length (allEdges (l .size) t)))) (finishing (l .size) t K ts es ps)
+unfoldable pub concluded : Layout → List ℕ → List ℕ → List ℕ → List ℕ → Bool → List ℕ → List ℕ → List ℕ → Outcome
+concluded l t S L K d ts es ps =
+    pick (clashIn l t S L || d) (cleared ts es ps (Clash (length (typesOf (l .size) t)) (length (allEdges (l .size) t)))) (finishing (l .size) t K ts es ps)

@@ -1,5 +1,6 @@
 // What is read off the tables when nothing more is to be kept: clash, same pairs, and the lists.
 ghost use mathlib.Core.Path.{_≡_};
+ghost use mathlib.Core.Bool.{_||_};
 ghost use Prim.Native.Nat.{_+_, _*_, _≤_, _<_};
 ghost use lib.ListN.{length, replicate};
 ghost use Rattle.rows.specs.Table.{Table};
@@ -8,6 +9,7 @@ ghost use Rattle.tables.specs.Tables.{Labelled, Grouped};
 ghost use Rattle.said.specs.Layout.{Placed, totalRows, part};
 ghost use Rattle.said.specs.declared.layout.Relation.the-variants.{Groups};
 ghost use Rattle.verdict.specs.Listing.{typesOf, allEdges};
+ghost use Rattle.verdict.specs.Verdict.{clashIn};
 ghost use Rattle.verdict.specs.Conclude.{came, finishing, concluded};
 use super::end::End;
 use super::list::clear;
@@ -61,6 +63,18 @@ fn finish(
     End::Finished(count, used - count, same as u32)
 }
 
+// Whether the tables clash, or a statement denies what they hold.
+fn clashing(t: &[u64], layout: Layout, says: &[u64], leaves: &[u32], denied: bool) -> bool
+    requires { ⌜ Table (layout .size) (now t) ⌝ }
+    requires { ⌜ Placed layout × (totalRows layout * 8 ≤ length (now says)) × (layout .concepts ≤ length (now leaves)) ⌝ }
+    ensures { λ r. ⌜ r ≡ (clashIn layout (now (t .entry)) (now (says .entry)) (now (leaves .entry)) || denied) ⌝ }
+{
+    if denied {
+        return true;
+    }
+    clash(t, layout, says, leaves)
+}
+
 pub fn conclude(
     t: &[u64],
     layout: Layout,
@@ -68,6 +82,7 @@ pub fn conclude(
     leaves: &[u32],
     labels: &[u32],
     used: u32,
+    denied: bool,
     types: &mut [u32],
     edges: &mut [u32],
     pairs: &mut [u32],
@@ -78,11 +93,11 @@ pub fn conclude(
     requires { ⌜ Placed layout × (totalRows layout * 8 ≤ length (now says)) × (layout .concepts ≤ length (now leaves)) ⌝ }
     requires { ⌜ used ≡ length (typesOf (layout .size) (now t)) + length (allEdges (layout .size) (now t)) ⌝ }
     requires { ⌜ (2 * length (typesOf (layout .size) (now t)) ≤ length (now types)) × (3 * length (allEdges (layout .size) (now t)) ≤ length (now edges)) ⌝ }
-    ensures { λ r. ⌜ came r (now (types .exit)) (now (edges .exit)) (now (pairs .exit)) ≡ concluded layout (now (t .entry)) (now (says .entry)) (now (leaves .entry)) (now (labels .entry)) (now (types .entry)) (now (edges .entry)) (now (pairs .entry)) ⌝ }
+    ensures { λ r. ⌜ came r (now (types .exit)) (now (edges .exit)) (now (pairs .exit)) ≡ concluded layout (now (t .entry)) (now (says .entry)) (now (leaves .entry)) (now (labels .entry)) denied (now (types .entry)) (now (edges .entry)) (now (pairs .entry)) ⌝ }
 {
     let size = layout.size;
     let count = list_types(types, t, size) as u32;
-    if clash(t, layout, says, leaves) {
+    if clashing(t, layout, says, leaves, denied) {
         clear_all(types, edges, pairs);
         return End::Clash(count, used - count);
     }

@@ -17,7 +17,7 @@ use Rattle.book.specs.Read.{pick, value, Parser, several}
 use Rattle.book.specs.Role.{roleOf, fieldOf, roleId}
 use Rattle.book.specs.Header.{Limits}
 use Rattle.book.specs.declared.statement.SubRolePath.the-variants.{One, Two, Three}
-use Rattle.book.specs.declared.statement.Axiom.the-variants.{SubClassOf, EquivalentClasses, DisjointClasses, InverseObjectProperties, SubObjectPropertyOf, TransitiveRole, SymmetricRole, FunctionalRole, InverseFunctionalRole, ObjectPropertyDomain, ObjectPropertyRange, SameIndividual, ClassAssertion, ObjectPropertyAssertion}
+use Rattle.book.specs.declared.statement.Axiom.the-variants.{SubClassOf, EquivalentClasses, DisjointClasses, InverseObjectProperties, SubObjectPropertyOf, TransitiveRole, SymmetricRole, FunctionalRole, InverseFunctionalRole, ObjectPropertyDomain, ObjectPropertyRange, SameIndividual, ClassAssertion, ObjectPropertyAssertion, DifferentIndividuals, NegativeObjectPropertyAssertion}
 use Rattle.book.specs.Table.{statementAllows}
 use Rattle.book.specs.Statement.{statementStart, statementLimits, unmarked, pathOf, axiomOf, statementOf, statementEnd, statementRest, statement}
 use Rattle.book.specs.Within.{Every, RoleWithin, Within, StatementWithin}
@@ -55,7 +55,7 @@ put-marks n f l v = set (set (set v 8 n) 9 f) 10 l
 
 record Known (x : Axiom) : Type 0 where
   some : not (eqb (formOf x .kind) 0) ≡ true
-  few : ltb (formOf x .kind) 15 ≡ true
+  few : ltb (formOf x .kind) 17 ≡ true
   allowed : statementAllows (formOf x .kind) (mapOf (own x)) ≡ true
   eight : length (own x) ≡ 8
   number : mapOf (own x) < 256
@@ -80,6 +80,8 @@ known (ObjectPropertyRange r c) = record { some = refl; few = refl; allowed = re
 known (SameIndividual i j) = record { some = refl; few = refl; allowed = refl; eight = refl; number = lit< tt; clear = λ n f. (refl, refl, refl); marked = λ n f l. (refl, refl, refl) }
 known (ClassAssertion c i) = record { some = refl; few = refl; allowed = refl; eight = refl; number = lit< tt; clear = λ n f. (refl, refl, refl); marked = λ n f l. (refl, refl, refl) }
 known (ObjectPropertyAssertion r i j) = record { some = refl; few = refl; allowed = refl; eight = refl; number = lit< tt; clear = λ n f. (refl, refl, refl); marked = λ n f l. (refl, refl, refl) }
+known (DifferentIndividuals i j) = record { some = refl; few = refl; allowed = refl; eight = refl; number = lit< tt; clear = λ n f. (refl, refl, refl); marked = λ n f l. (refl, refl, refl) }
+known (NegativeObjectPropertyAssertion r i j) = record { some = refl; few = refl; allowed = refl; eight = refl; number = lit< tt; clear = λ n f. (refl, refl, refl); marked = λ n f l. (refl, refl, refl) }
 
 -- a form says which statement it is of, whatever its source and its days
 axiom-filled : (x : Axiom) (n f l : ℕ) → axiomOf (startOf x) (put-marks n f l (fill 0 (own x) unmarked)) ≡ x
@@ -100,6 +102,8 @@ axiom-filled (ObjectPropertyRange r c) n f l = simp role-of-field
 axiom-filled (SameIndividual i j) n f l = refl
 axiom-filled (ClassAssertion c i) n f l = refl
 axiom-filled (ObjectPropertyAssertion r i j) n f l = simp role-of-field
+axiom-filled (DifferentIndividuals i j) n f l = refl
+axiom-filled (NegativeObjectPropertyAssertion r i j) n f l = simp role-of-field
 
 -- and so does a whole record's
 whole-map : (x : Statement) → mapOf (wholeOf x .places) ≡ mapOf (own (x .body)) + 256 * mapOf (marks x)
@@ -190,6 +194,8 @@ module _ (h : Counts) (lim : Limits h) where
   form-fits (SameIndividual i j) w = (individual-low i (w .0), (individual-low j (w .1), tt))
   form-fits (ClassAssertion c i) w = (concept-low c (w .0), (individual-low i (w .1), tt))
   form-fits (ObjectPropertyAssertion r i j) w = (role-low r (w .0), (individual-low i (w .1), (individual-low j (w .2), tt)))
+  form-fits (DifferentIndividuals i j) w = (individual-low i (w .0), (individual-low j (w .1), tt))
+  form-fits (NegativeObjectPropertyAssertion r i j) w = (role-low r (w .0), (individual-low i (w .1), (individual-low j (w .2), tt)))
 
   whole-fits : (x : Statement) → StatementWithin h x → Fit (statementLimits h) unmarked 0 (wholeOf x .places)
   whole-fits x w =
@@ -199,7 +205,7 @@ module _ (h : Counts) (lim : Limits h) where
       fit-append limits unmarked 0 (own (x .body)) (marks x) (form-fits (x .body) (w .body))
       (rw (known (x .body) .eight) (mark-fit limits unmarked 8 0 (x .source) (mark 0 (x .first) ∷ mark 65535 (x .last) ∷ []) refl (w .source-top) first))
 
-  statement-of : (s : List ℕ) (at k a m b : ℕ) (v : List ℕ) (e : ℕ) → byte s at ≡ value k a → not (eqb k 0) ≡ true → ltb k 15 ≡ true → twoBytes s a ≡ value m b → ltb m 2048 ≡ true → statementAllows k (m % 256) ≡ true → fields m (statementLimits h) unmarked 9 s b ≡ value v e → leb (getD v 9 0) (getD v 10 0) ≡ true → statement h s at ≡ value (statementOf (record { kind = k; map = m }) v) e
+  statement-of : (s : List ℕ) (at k a m b : ℕ) (v : List ℕ) (e : ℕ) → byte s at ≡ value k a → not (eqb k 0) ≡ true → ltb k 17 ≡ true → twoBytes s a ≡ value m b → ltb m 2048 ≡ true → statementAllows k (m % 256) ≡ true → fields m (statementLimits h) unmarked 9 s b ≡ value v e → leb (getD v 9 0) (getD v 10 0) ≡ true → statement h s at ≡ value (statementOf (record { kind = k; map = m }) v) e
   unfolding statement statementStart statementRest statementEnd
   statement-of s at k a m b v e t some few u top allowed f period = simp (t, some, few, u, top, allowed, f, period)
 
@@ -236,7 +242,7 @@ module _ (v : List ℕ) where
   only : (kind map a : ℕ) → (eqb map a || eqb map a || eqb map a) ≡ true → Shows kind a → Shows kind map
   only kind map a t x = one-of kind map a a a t x x x
 
-  kinds-show : (kind map : ℕ) → (kind ≡ 0 → ⊥) → kind < 15 → statementAllows kind map ≡ true → Shows kind map
+  kinds-show : (kind map : ℕ) → (kind ≡ 0 → ⊥) → kind < 17 → statementAllows kind map ≡ true → Shows kind map
   unfolding axiomOf pathOf statementAllows
   kinds-show zero map d l t = absurd (d refl)
   kinds-show (suc zero) map d l t = only 1 map 0x30 t (refl, refl)
@@ -253,7 +259,9 @@ module _ (v : List ℕ) where
   kinds-show (suc (suc (suc (suc (suc (suc (suc (suc (suc (suc (suc (suc zero)))))))))))) map d l t = only 12 map 0xC0 t (refl, refl)
   kinds-show (suc (suc (suc (suc (suc (suc (suc (suc (suc (suc (suc (suc (suc zero))))))))))))) map d l t = only 13 map 0x50 t (refl, refl)
   kinds-show (suc (suc (suc (suc (suc (suc (suc (suc (suc (suc (suc (suc (suc (suc zero)))))))))))))) map d l t = only 14 map 0xC1 t (refl, simp field-of-role)
-  kinds-show (suc (suc (suc (suc (suc (suc (suc (suc (suc (suc (suc (suc (suc (suc (suc k))))))))))))))) map d l t = absurd (omega arith)
+  kinds-show (suc (suc (suc (suc (suc (suc (suc (suc (suc (suc (suc (suc (suc (suc (suc zero))))))))))))))) map d l t = only 15 map 0xC0 t (refl, refl)
+  kinds-show (suc (suc (suc (suc (suc (suc (suc (suc (suc (suc (suc (suc (suc (suc (suc (suc zero)))))))))))))))) map d l t = only 16 map 0xC1 t (refl, simp field-of-role)
+  kinds-show (suc (suc (suc (suc (suc (suc (suc (suc (suc (suc (suc (suc (suc (suc (suc (suc (suc k))))))))))))))))) map d l t = absurd (omega arith)
 
 values-room : 0 + 16 ≤ length unmarked
 values-room = omega arith
@@ -286,7 +294,7 @@ module _ (m : ℕ) (l : m < 2048) (v : List ℕ) where
       let g : placesOf 5 11 (m / 2 / 2 / 2 / 2 / 2 / 2 / 2 / 2 / 2 / 2 / 2) v ≡ replicate 5 gap = ap (λ (y : ℕ). placesOf 5 11 y v) eleventh ∙ gaps 5 11 v in
       rw (n, f, o) (three _ _ _ _ _ _ _ _ _ t g)
 
-  places-shown : (kind : ℕ) → (kind ≡ 0 → ⊥) → kind < 15 → statementAllows kind (m % 256) ≡ true → placesOf 16 0 m v ≡ marksFrom unmarked 16 0 v → (formOf (axiomOf (record { kind = kind; map = m }) v) .kind ≡ kind) × (placesOf 16 0 m v ≡ wholeOf (statementOf (record { kind = kind; map = m }) v) .places ++ replicate 5 gap)
+  places-shown : (kind : ℕ) → (kind ≡ 0 → ⊥) → kind < 17 → statementAllows kind (m % 256) ≡ true → placesOf 16 0 m v ≡ marksFrom unmarked 16 0 v → (formOf (axiomOf (record { kind = kind; map = m }) v) .kind ≡ kind) × (placesOf 16 0 m v ≡ wholeOf (statementOf (record { kind = kind; map = m }) v) .places ++ replicate 5 gap)
   places-shown kind some few allowed e =
       let x = statementOf (record { kind = kind; map = m }) v in
       let shows = subst (λ (a : Axiom). (formOf a .kind ≡ kind) × (placesOf 8 0 (m % 256) v ≡ own a)) (axiom-low kind m v) (kinds-show v kind (m % 256) some few allowed) in
@@ -306,7 +314,7 @@ module _ (s : List ℕ) (h : Counts) (at : ℕ) (x : Statement) (e : ℕ) where
       let st = start-known s at (p .start) (p .then) (p .started) in
       let a = came (byte s at) _ (p .start) (p .then) (p .started) in
       let z = held (not (eqb (a .0) 0)) 7 s (a .1) _ (p .start) (p .then) (a .3) in
-      let b = held (ltb (a .0) 15) 7 s (a .1) _ (p .start) (p .then) (z .1) in
+      let b = held (ltb (a .0) 17) 7 s (a .1) _ (p .start) (p .then) (z .1) in
       let c = came (twoBytes s (a .1)) _ (p .start) (p .then) (b .1) in
       let n = held (ltb (c .0) 2048) 8 s (c .1) _ (p .start) (p .then) (c .3) in
       let d = held (statementAllows (a .0) (c .0 % 256)) 8 s (c .1) _ (p .start) (p .then) (n .1) in

@@ -15,7 +15,7 @@ use Rattle.book.specs.declared.statement.Statement.{Statement}
 use Rattle.book.specs.Read.{value}
 use Rattle.book.specs.Table.{statementAllows}
 use Rattle.book.specs.Field.{byte, twoBytes, fields}
-use Rattle.book.specs.Statement.{statementStart, statementLimits, unmarked, pathOf, assertion, axiomKinds, axiomOf, statementOf, statementEnd, statementRest, statement}
+use Rattle.book.specs.Statement.{statementStart, statementLimits, unmarked, pathOf, denial, axiomKinds, axiomOf, statementOf, statementEnd, statementRest, statement}
 use Rattle.book.specs.Within.{Within, StatementWithin}
 use Rattle.book.proofs.Parsing.{came, held, same-value, Goes}
 use Rattle.book.proofs.role.Laws.{role-below}
@@ -25,7 +25,7 @@ use Rattle.book.proofs.field.Laws.{byte-goes, two-goes, bitAt, fields-r
 module _ (s : List ℕ) (at : ℕ) (x : Start) (next : ℕ) (read : statementStart s at ≡ value x next) where
   pub record StartKnown : Type 0 where
     pub kind-some : x .kind ≡ 0 → ⊥
-    pub kind-known : x .kind < 15
+    pub kind-known : x .kind < 17
     pub map-top : x .map < 2048
     pub map-known : statementAllows (x .kind) (x .map % 256) ≡ true
     pub goes : Goes 3 s at next
@@ -35,7 +35,7 @@ module _ (s : List ℕ) (at : ℕ) (x : Start) (next : ℕ) (read : statementSta
   start-known =
       let a = came (byte s at) _ x next read in
       let z = held (not (eqb (a .0) 0)) 7 s (a .1) _ x next (a .3) in
-      let b = held (ltb (a .0) 15) 7 s (a .1) _ x next (z .1) in
+      let b = held (ltb (a .0) 17) 7 s (a .1) _ x next (z .1) in
       let c = came (twoBytes s (a .1)) _ x next (b .1) in
       let m = held (ltb (c .0) 2048) 8 s (c .1) _ x next (c .3) in
       let d = held (statementAllows (a .0) (c .0 % 256)) 8 s (c .1) _ x next (m .1) in
@@ -47,7 +47,7 @@ module _ (s : List ℕ) (at : ℕ) (x : Start) (next : ℕ) (read : statementSta
       let known : statementAllows (y .kind) (y .map % 256) ≡ true = d .0 in
       record {
         kind-some = subst (λ (w : Start). w .kind ≡ 0 → ⊥) (e .0) some;
-        kind-known = subst (λ (w : Start). w .kind < 15) (e .0) (ltb-true (a .0) 15 (b .0));
+        kind-known = subst (λ (w : Start). w .kind < 17) (e .0) (ltb-true (a .0) 17 (b .0));
         map-top = subst (λ (w : Start). w .map < 2048) (e .0) (ltb-true (c .0) 2048 (m .0));
         map-known = subst (λ (w : Start). statementAllows (w .kind) (w .map % 256) ≡ true) (e .0) known;
         goes = (omega (arith, g .0, g′ .0, e .1), omega (arith, g′ .1, e .1));
@@ -74,7 +74,7 @@ module _ (h : Counts) (v : List ℕ) where
   only : (kind map a : ℕ) → (eqb map a || eqb map a || eqb map a) ≡ true → Keeps kind a → Keeps kind map
   only kind map a t x = one-of kind map a a a t x x x
 
-  pub kinds-keep : (kind map : ℕ) → (kind ≡ 0 → ⊥) → kind < 15 → statementAllows kind map ≡ true → Keeps kind map
+  pub kinds-keep : (kind map : ℕ) → (kind ≡ 0 → ⊥) → kind < 17 → statementAllows kind map ≡ true → Keeps kind map
   unfolding axiomOf pathOf statementAllows
   kinds-keep zero map d l t = absurd (d refl)
   kinds-keep (suc zero) map d l t = only 1 map 0x30 t (λ f. (f 4 (lit< tt) (omega arith), f 5 (lit< tt) (omega arith)))
@@ -95,7 +95,9 @@ module _ (h : Counts) (v : List ℕ) where
   kinds-keep (suc (suc (suc (suc (suc (suc (suc (suc (suc (suc (suc (suc zero)))))))))))) map d l t = only 12 map 0xC0 t (λ f. (f 6 (lit< tt) (omega arith), f 7 (lit< tt) (omega arith)))
   kinds-keep (suc (suc (suc (suc (suc (suc (suc (suc (suc (suc (suc (suc (suc zero))))))))))))) map d l t = only 13 map 0x50 t (λ f. (f 4 (lit< tt) (omega arith), f 6 (lit< tt) (omega arith)))
   kinds-keep (suc (suc (suc (suc (suc (suc (suc (suc (suc (suc (suc (suc (suc (suc zero)))))))))))))) map d l t = only 14 map 0xC1 t (λ f. (role-below _ _ (f 0 (lit< tt) (omega arith)), f 6 (lit< tt) (omega arith), f 7 (lit< tt) (omega arith)))
-  kinds-keep (suc (suc (suc (suc (suc (suc (suc (suc (suc (suc (suc (suc (suc (suc (suc k))))))))))))))) map d l t = absurd (omega arith)
+  kinds-keep (suc (suc (suc (suc (suc (suc (suc (suc (suc (suc (suc (suc (suc (suc (suc zero))))))))))))))) map d l t = only 15 map 0xC0 t (λ f. (f 6 (lit< tt) (omega arith), f 7 (lit< tt) (omega arith)))
+  kinds-keep (suc (suc (suc (suc (suc (suc (suc (suc (suc (suc (suc (suc (suc (suc (suc (suc zero)))))))))))))))) map d l t = only 16 map 0xC1 t (λ f. (role-below _ _ (f 0 (lit< tt) (omega arith)), f 6 (lit< tt) (omega arith), f 7 (lit< tt) (omega arith)))
+  kinds-keep (suc (suc (suc (suc (suc (suc (suc (suc (suc (suc (suc (suc (suc (suc (suc (suc (suc k))))))))))))))))) map d l t = absurd (omega arith)
 
 -- the bits of a map's low byte are bits of the map
 no-bit : (j : ℕ) → bitAt 0 j ≡ 0
@@ -135,7 +137,7 @@ low-bit map j f e = go (decLt j 8)
 
 pub axiom-low : (kind map : ℕ) (v : List ℕ) → axiomOf (record { kind = kind; map = map % 256 }) v ≡ axiomOf (record { kind = kind; map = map }) v
 unfolding axiomOf
-axiom-low kind map v = let q : map % 256 % 256 ≡ map % 256 = omega arith in ap (λ (m : ℕ). getD (axiomKinds m v) kind (assertion v)) q
+axiom-low kind map v = let q : map % 256 % 256 ≡ map % 256 = omega arith in ap (λ (m : ℕ). getD (axiomKinds m v) kind (denial v)) q
 
 module _ (s : List ℕ) (h : Counts) (at : ℕ) (x : Statement) (next : ℕ) (read : statement h s at ≡ value x next) where
   -- what a statement went through

@@ -22,7 +22,7 @@ use Rattle.book.specs.Read.{value, refusal}
 use Rattle.book.specs.Field.{byte, twoBytes, fields, asField, asFields}
 use Rattle.book.specs.Table.{statementAllows}
 use Rattle.book.specs.Concept.{asStart}
-use Rattle.book.specs.Statement.{statementStart, statementLimits, unmarked, pathOf, assertion, axiomKinds, axiomOf, statementOf, statementEnd, statementRest, statement, asStatement}
+use Rattle.book.specs.Statement.{statementStart, statementLimits, unmarked, pathOf, denial, axiomKinds, axiomOf, statementOf, statementEnd, statementRest, statement, asStatement}
 
 abbrev start : ℕ → ℕ → Start
 start kind map = record { kind = kind; map = map }
@@ -37,25 +37,25 @@ module _ (s : List ℕ) (at : ℕ) (r : ReadField) where
     unfolding statementStart
     start-zero e f h = simp (← e, f, eq-eqb _ _ h)
 
-    pub start-unknown : asField r ≡ byte s at → r ≡ Next kind then → (kind ≡ 0 → ⊥) → 15 ≤ kind → refusal 7 ≡ statementStart s at
+    pub start-unknown : asField r ≡ byte s at → r ≡ Next kind then → (kind ≡ 0 → ⊥) → 17 ≤ kind → refusal 7 ≡ statementStart s at
     unfolding statementStart
     start-unknown e f z h = simp (← e, f, ne-eqb _ _ z, le-ltb _ _ h)
 
     module _ (m : ReadField) where
-      pub start-mapless : (n : ℕ) → asField r ≡ byte s at → r ≡ Next kind then → (kind ≡ 0 → ⊥) → kind < 15 → asField m ≡ twoBytes s then → m ≡ Refused n → refusal n ≡ statementStart s at
+      pub start-mapless : (n : ℕ) → asField r ≡ byte s at → r ≡ Next kind then → (kind ≡ 0 → ⊥) → kind < 17 → asField m ≡ twoBytes s then → m ≡ Refused n → refusal n ≡ statementStart s at
       unfolding statementStart
       start-mapless n e f z h g q = simp (← e, f, ne-eqb _ _ z, lt-ltb _ _ h, ← g, q)
 
-      pub start-high : (map next : ℕ) → asField r ≡ byte s at → r ≡ Next kind then → (kind ≡ 0 → ⊥) → kind < 15 → asField m ≡ twoBytes s then → m ≡ Next map next → 2048 ≤ map → refusal 8 ≡ statementStart s at
+      pub start-high : (map next : ℕ) → asField r ≡ byte s at → r ≡ Next kind then → (kind ≡ 0 → ⊥) → kind < 17 → asField m ≡ twoBytes s then → m ≡ Next map next → 2048 ≤ map → refusal 8 ≡ statementStart s at
       unfolding statementStart
       start-high map next e f z h g q a = simp (← e, f, ne-eqb _ _ z, lt-ltb _ _ h, ← g, q, le-ltb _ _ a)
 
       module _ (map next : ℕ) (allowed : Bool) where
-        pub start-of : asField r ≡ byte s at → r ≡ Next kind then → (kind ≡ 0 → ⊥) → kind < 15 → asField m ≡ twoBytes s then → m ≡ Next map next → map < 2048 → allowed ≡ statementAllows kind (map % 256) → allowed ≡ true → value (start kind map) next ≡ statementStart s at
+        pub start-of : asField r ≡ byte s at → r ≡ Next kind then → (kind ≡ 0 → ⊥) → kind < 17 → asField m ≡ twoBytes s then → m ≡ Next map next → map < 2048 → allowed ≡ statementAllows kind (map % 256) → allowed ≡ true → value (start kind map) next ≡ statementStart s at
         unfolding statementStart
         start-of e f z h g q l a b = simp (← e, f, ne-eqb _ _ z, lt-ltb _ _ h, ← g, q, lt-ltb _ _ l, ← a, b)
 
-        pub start-disallowed : asField r ≡ byte s at → r ≡ Next kind then → (kind ≡ 0 → ⊥) → kind < 15 → asField m ≡ twoBytes s then → m ≡ Next map next → map < 2048 → allowed ≡ statementAllows kind (map % 256) → allowed ≡ false → refusal 8 ≡ statementStart s at
+        pub start-disallowed : asField r ≡ byte s at → r ≡ Next kind then → (kind ≡ 0 → ⊥) → kind < 17 → asField m ≡ twoBytes s then → m ≡ Next map next → map < 2048 → allowed ≡ statementAllows kind (map % 256) → allowed ≡ false → refusal 8 ≡ statementStart s at
         unfolding statementStart
         start-disallowed e f z h g q l a b = simp (← e, f, ne-eqb _ _ z, lt-ltb _ _ h, ← g, q, lt-ltb _ _ l, ← a, b)
 
@@ -76,14 +76,14 @@ module _ (map : ℕ) (r s t : Role) where
 
 pub ruleset path-ways = (path-one, path-two, path-three)
 
--- a kind that is none of 1 to 13
-pub assertion-of : (x : Start) (v : List ℕ) → ((x .kind ≡ 0 → ⊥) → 14 ≤ x .kind) → assertion v ≡ axiomOf x v
+-- a kind that is none of 1 to 15
+pub denial-of : (x : Start) (v : List ℕ) → ((x .kind ≡ 0 → ⊥) → 16 ≤ x .kind) → denial v ≡ axiomOf x v
 unfolding axiomOf
-assertion-of x v f = go (x .kind) f
+denial-of x v f = go (x .kind) f
   where
-    go : (k : ℕ) → ((k ≡ 0 → ⊥) → 14 ≤ k) → assertion v ≡ getD (axiomKinds (x .map % 256) v) k (assertion v)
+    go : (k : ℕ) → ((k ≡ 0 → ⊥) → 16 ≤ k) → denial v ≡ getD (axiomKinds (x .map % 256) v) k (denial v)
     go zero f = refl
-    go (suc k) f = sym (List·getD-eq-default (axiomKinds (x .map % 256) v) (assertion v) (f (omega arith)))
+    go (suc k) f = sym (List·getD-eq-default (axiomKinds (x .map % 256) v) (denial v) (f (omega arith)))
 
 module _ (x : Start) (v : List ℕ) (next : ℕ) where
   pub end-early : getD v 10 0 < getD v 9 0 → (s : List ℕ) → refusal 16 ≡ statementEnd x v s next

@@ -2,7 +2,7 @@
 use Prim.Native.Nat.{ℕ, _+_, _-_, _*_, _<_, _≤_}
 use native.Mathlib.Omega.{arith}
 use mathlib.Core.Path.{_≡_, refl, ap, sym, _∙_}
-use mathlib.Core.Bool.{Bool, true, false, _&&_}
+use mathlib.Core.Bool.{Bool, true, false, _&&_, _||_}
 use mathlib.Core.List.{List}
 use lib.ListN.{length, getD, replicate}
 use lib.Dec.{ltb, eqb}
@@ -58,19 +58,19 @@ module _ (z : Size) (t K ts es ps : List ℕ) {us fs qs : List ℕ} where
       let f : used - count ≡ length (allEdges z t) = omega arith in
       rw (a, b, c, f, d, ← e, le-ltb _ _ l) refl
 
-module _ (l : Layout) (t S L K ts es ps : List ℕ) where
+module _ (l : Layout) (t S L K : List ℕ) (d : Bool) (ts es ps : List ℕ) where
   -- a clash stands
-  pub clash-outcome : {count used : ℕ} {us fs qs : List ℕ} {x : Bool} → x ≡ clashIn l t S L → x ≡ true
+  pub clash-outcome : {count used : ℕ} {us fs qs : List ℕ} {x : Bool} → x ≡ (clashIn l t S L || d) → x ≡ true
       → count ≡ length (typesOf (l .size) t) → used ≡ length (typesOf (l .size) t) + length (allEdges (l .size) t)
       → us ≡ replicate (length ts) 0 → fs ≡ replicate (length es) 0 → qs ≡ replicate (length ps) 0
-      → came (clash count (used - count)) us fs qs ≡ concluded l t S L K ts es ps
+      → came (clash count (used - count)) us fs qs ≡ concluded l t S L K d ts es ps
   unfolding concluded
-  clash-outcome {count} {used} x k d u a b c =
+  clash-outcome {count} {used} x k w u a b c =
       let f : used - count ≡ length (allEdges (l .size) t) = omega arith in
-      rw (a, b, c, f, d, ← x, k) refl
+      rw (a, b, c, f, w, ← x, k) refl
 
   -- none stands; of the list of types only the length matters
-  pub calm-outcome : (vs : List ℕ) {o : Outcome} {x : Bool} → x ≡ clashIn l t S L → x ≡ false → length vs ≡ length ts
-      → o ≡ finishing (l .size) t K vs es ps → o ≡ concluded l t S L K ts es ps
+  pub calm-outcome : (vs : List ℕ) {o : Outcome} {x : Bool} → x ≡ (clashIn l t S L || d) → x ≡ false → length vs ≡ length ts
+      → o ≡ finishing (l .size) t K vs es ps → o ≡ concluded l t S L K d ts es ps
   unfolding concluded
   calm-outcome vs x k e h = rw (← x, k, ← e) h

@@ -26,10 +26,11 @@ returns c = accept-nothing (c .before .before .before .before .before .before .b
 by-clash-requires : tie.Need-by-clash-requires
 by-clash-requires c κs =
     let s = c .before .before .before .before .before .before .before .before .before .before .before .before .before .before .before in
-    (s .pre .0 .prepared .concepts .limits, s .pre .0 .pairs-room)
+    let r = s .pre .0 in
+    ((r .prepared .concepts .limits, r .labels-room, r .pairs-room), ((r .labels, r .pairs), ((r .prepared .room, r .prepared .count), r .prepared .starts)))
 
 returns-2 : tie.Need-returns-2
-returns-2 c = accept-clash (c .before .before .before .before .before .before .before .before .before .before .before .before .before .before .before .before .pre .0) (c .before .before .before .before .before .before .before .before .before .before .before .before .before .before .before .before .args .rows .now) (c .before .before .before .before .before .before .before .before .before .before .before .before .before .before .before .before .args .k) (c .before .before .before .before .before .before .before .row-at .ensures) (c .before .before .before .before .before .before .names-earlier .ensures) (c .before .before .before .before .before .if1 .taken) (c .before .before .before .before .facts-named .ensures) (c .before .before .before .claim-of .ensures) (c .before .if3 .taken) (c .by-clash .ensures (bookOf (c .before .before .before .before .before .before .before .before .before .before .before .before .before .before .before .before .args .book .now)) (c .before .before .before .before .before .before .before .before .before .before .before .before .before .before .before .before .pre .0 .pairs))
+returns-2 c = accept-clash (c .before .before .before .before .before .before .before .before .before .before .before .before .before .before .before .before .pre .0) (c .before .before .before .before .before .before .before .before .before .before .before .before .before .before .before .before .args .rows .now) (c .before .before .before .before .before .before .before .before .before .before .before .before .before .before .before .before .args .k) (c .before .before .before .before .before .before .before .row-at .ensures) (c .before .before .before .before .before .before .names-earlier .ensures) (c .before .before .before .before .before .if1 .taken) (c .before .before .before .before .facts-named .ensures) (c .before .before .before .claim-of .ensures) (c .before .if3 .taken) (c .by-clash .ensures)
 
 by-fact-requires : tie.Need-by-fact-requires
 by-fact-requires c κs = search needs

@@ -139,6 +139,12 @@ edge-of-requires c κs =
     let w = rw (c .before .statement12 .given .1) at (s .pre .1) in
     (omega (arith, w .0, s .pre .0 .limits .roles-top), omega (arith, w .1, s .pre .0 .limits .individuals-top), omega (arith, w .2, s .pre .0 .limits .individuals-top))
 
+enum-told-3 : tie.Need-enum-told-3
+enum-told-3 c = search needs
+
+enum-told-4 : tie.Need-enum-told-4
+enum-told-4 c = search needs
+
 returns : tie.Need-returns
 unfolding fits
 returns c = λ B t. rw (c .before .before .statement .given .1, t .counts) (c .bring-fits .ensures B t)
@@ -195,6 +201,14 @@ returns-14 : tie.Need-returns-14
 unfolding fits
 returns-14 c = λ B t. rw (c .before .before .statement12 .given .1, c .edge-of .ensures) refl
 
+returns-15 : tie.Need-returns-15
+unfolding fits
+returns-15 c = λ B t. rw (c .enum-told3 .given .1) refl
+
+returns-16 : tie.Need-returns-16
+unfolding fits
+returns-16 c = λ B t. rw (c .enum-told4 .given .1) refl
+
 pub fits-spec : {M : Type 1} → statement M
 fits-spec =
     tie.close
@@ -229,6 +243,8 @@ fits-spec =
     told-fits-requires
     enum-known-statement-12
     edge-of-requires
+    enum-told-3
+    enum-told-4
     returns
     returns-2
     returns-3
@@ -242,4 +258,6 @@ fits-spec =
     returns-11
     returns-12
     returns-13
-    returns-14)
+    returns-14
+    returns-15
+    returns-16)

@@ -11,14 +11,14 @@ list-types-requires c κs = search needs
 cast-count : tie.Need-cast-count
 cast-count c = search needs
 
-clash-requires : tie.Need-clash-requires
-clash-requires c κs = search needs
+clashing-requires : tie.Need-clashing-requires
+clashing-requires c κs = search needs
 
 clear-all-requires : tie.Need-clear-all-requires
 clear-all-requires c κs = search needs
 
-sub-t24 : tie.Need-sub-t24
-sub-t24 c = search needs
+sub-t25 : tie.Need-sub-t25
+sub-t25 c = omega (arith, c .before .before .before .before .before .before .before .before .before .before .before .before .before .before .list-types .ensures .0, c .before .before .before .before .before .before .before .before .before .before .before .before .before .before .before .before .before .before .before .before .before .before .before .before .pre .1 .1 .1 .1 .0)
 
 same-length : tie.Need-same-length
 same-length c = search needs
@@ -36,7 +36,7 @@ returns c =
     let s = k .before .before .before .before .before .before .before .before .before .before in
     let a = s .args in
     let e = l .clear-all .ensures in
-    clash-outcome _ _ _ _ (now (a .labels)) (now (a .types)) (now (a .edges)) (now (a .pairs)) (l .before .before .before .before .before .clash .ensures) (l .before .before .before .before .if1 .taken)
+    clash-outcome _ _ _ _ (now (a .labels)) (a .denied) (now (a .types)) (now (a .edges)) (now (a .pairs)) (l .before .before .before .before .before .clashing .ensures) (l .before .before .before .before .if1 .taken)
     (k .list-types .ensures .0) (s .pre .1 .1 .1 .1 .0) (rw (l .before .before .before .before .before .before .before .types .given) at (e .0)) (e .1 .0) (e .1 .1)
 
 part-of-requires : tie.Need-part-of-requires
@@ -64,8 +64,8 @@ returns-2 c =
     let l = c .before .before .before .before .before .before in
     let k = l .before .before .before .before .before .before .before .before .before in
     let a = k .before .before .before .before .before .before .before .before .before .before .args in
-    calm-outcome _ _ _ _ (now (a .labels)) (now (a .types)) (now (a .edges)) (now (a .pairs)) (k .list-types .last .0)
-    (l .before .before .before .before .before .before .clash .ensures) (l .before .before .before .before .before .if1 .left)
+    calm-outcome _ _ _ _ (now (a .labels)) (a .denied) (now (a .types)) (now (a .edges)) (now (a .pairs)) (k .list-types .last .0)
+    (l .before .before .before .before .before .before .clashing .ensures) (l .before .before .before .before .before .if1 .left)
     (l .before .before .before .before .before .before .before .before .types .given) (l .finish .ensures)
 
 pub conclude-spec : {M : Type 1} → statement M
@@ -74,9 +74,9 @@ conclude-spec =
     (tie.spec
     list-types-requires
     cast-count
-    clash-requires
+    clashing-requires
     clear-all-requires
-    sub-t24
+    sub-t25
     same-length
     same-length-2
     same-length-3

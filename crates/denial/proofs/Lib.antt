@@ -1,0 +1,2 @@
+-- One statement after the other.
+pub mod Left

@@ -1,0 +1,2 @@
+-- What statements deny.
+pub mod Denied
