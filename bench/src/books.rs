@@ -3,9 +3,9 @@
 use oracle::book::{self, Book};
 use oracle::random::Random;
 
-const P: u16 = 0;
-const Q: u16 = 2;
-const S: u16 = 4;
+pub const P: u16 = 0;
+pub const Q: u16 = 2;
+pub const S: u16 = 4;
 
 /// A name, and the books that one timed pass runs.
 pub struct Named {
@@ -13,11 +13,11 @@ pub struct Named {
     pub books: Vec<Book>,
 }
 
-fn one(name: &str, book: Book) -> Named {
+pub fn one(name: &str, book: Book) -> Named {
     Named { name: name.into(), books: vec![book] }
 }
 
-fn empty(classes: usize, roles: usize, individuals: usize) -> Book {
+pub fn empty(classes: usize, roles: usize, individuals: usize) -> Book {
     let mut book = Book { counts: [classes, roles, individuals], ..Book::default() };
     // concept number c is Atomic c
     (0..classes).for_each(|c| {
@@ -43,7 +43,7 @@ fn reversed_path(n: u16) -> Book {
 }
 
 /// p leads everyone to everyone: a ring, and p transitive.
-fn everyone(book: &mut Book, n: u16) {
+pub fn everyone(book: &mut Book, n: u16) {
     book.tell(book::TRANSITIVE, &[P]);
     (0..n).for_each(|a| book.tell(book::ROLE_ASSERTION, &[P, a, (a + 1) % n]));
 }
@@ -105,17 +105,21 @@ fn merge_deep() -> Book {
     book
 }
 
-/// Two lines of n - 1 individuals under a functional role, whose first are the fillers of one subject under another: each two
-/// that are joined share their edges, which joins the next two, lower numbers later.
+/// Two lines of n - 1 individuals from the first on under a functional role, whose first are the fillers of one subject under
+/// another: each two that are joined share their edges, which joins the next two, lower numbers later.
+pub fn joins(book: &mut Book, line: u16, start: u16, first: u16, n: u16) {
+    [line, start].into_iter().for_each(|role| book.tell(book::FUNCTIONAL, &[role]));
+    for i in first + 2..first + n {
+        book.tell(book::ROLE_ASSERTION, &[line, i, i - 1]);
+        book.tell(book::ROLE_ASSERTION, &[line, n + i, n + i - 1]);
+    }
+    book.tell(book::ROLE_ASSERTION, &[start, first, first + n - 1]);
+    book.tell(book::ROLE_ASSERTION, &[start, first, first + 2 * n - 1]);
+}
+
 pub fn joins_in_a_row(n: u16) -> Book {
     let mut book = empty(0, 2, 2 * usize::from(n));
-    [P, Q].into_iter().for_each(|role| book.tell(book::FUNCTIONAL, &[role]));
-    for i in 2..n {
-        book.tell(book::ROLE_ASSERTION, &[P, i, i - 1]);
-        book.tell(book::ROLE_ASSERTION, &[P, n + i, n + i - 1]);
-    }
-    book.tell(book::ROLE_ASSERTION, &[Q, 0, n - 1]);
-    book.tell(book::ROLE_ASSERTION, &[Q, 0, 2 * n - 1]);
+    joins(&mut book, P, Q, 0, n);
     book
 }
 

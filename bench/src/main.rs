@@ -1,14 +1,16 @@
 //! The time of our library and of the Rust on the same books, and how ours grows.
 //!
-//!     bench [--limit SECONDS] [--runs N]
+//!     bench [--worst] [--limit SECONDS] [--runs N]
 //!
 //! Ours is one call of the library: reading the book, the run, and filling and clearing lists as long as the book's
 //! bound needs. The Rust's is `saturate_with` alone, on an ontology that stands in memory; beside it stands the same
 //! with reading the book and building the ontology. Each is the median of its runs, in processor time. The Rust runs in
-//! a child process, which is ended where one run takes longer than the limit.
+//! a child process, which is ended where one run takes longer than the limit. With --worst stand instead the worst books
+//! known, ours alone, at the program's budget and at the highest: a child process too, under the same limit.
 
 mod books;
 mod clock;
+mod worst;
 
 use clock::thread_time;
 use oracle::book::{Book, INDIVIDUALS};
@@ -20,15 +22,23 @@ use std::process::{Command, ExitCode, Stdio};
 use std::sync::mpsc;
 use std::time::{Duration, Instant};
 
+/// The program's budget, and the highest.
+const BUDGETS: [usize; 2] = [4000, 1_000_000];
+
 struct Options {
     limit: Duration,
     runs: usize,
+    worst: bool,
 }
 
 fn options() -> Result<Options, String> {
-    let mut options = Options { limit: Duration::from_secs(20), runs: 5 };
+    let mut options = Options { limit: Duration::from_secs(20), runs: 5, worst: false };
     let mut words = std::env::args().skip(1);
     while let Some(word) = words.next() {
+        if word == "--worst" {
+            options.worst = true;
+            continue;
+        }
         let value = words.next().and_then(|n| n.parse().ok()).ok_or(format!("{word} needs a number"))?;
         match word.as_str() {
             "--limit" => options.limit = Duration::from_secs(value),
@@ -90,11 +100,11 @@ struct RustTimes {
     facts: u64,
 }
 
-/// None where not one run ended within the limit.
-fn rust(books: &[Book], options: &Options) -> Option<RustTimes> {
+/// The lines of numbers that a child process of these words writes on the books, so many at most, each within the limit.
+fn lines(words: &[String], books: &[Book], options: &Options) -> Vec<Vec<u64>> {
     let program = std::env::current_exe().expect("this program");
     let mut command = Command::new(program);
-    command.args(["child", &options.runs.to_string()]).stdin(Stdio::piped()).stdout(Stdio::piped());
+    command.args(words).stdin(Stdio::piped()).stdout(Stdio::piped());
     let mut child = command.spawn().expect("a child process");
     let mut input = child.stdin.take().expect("piped");
     for book in books {
@@ -106,18 +116,86 @@ fn rust(books: &[Book], options: &Options) -> Option<RustTimes> {
     let reader = std::thread::spawn(move || {
         let _ = output.lines().map_while(Result::ok).try_for_each(|line| sender.send(line));
     });
-    let (mut alone, mut whole, mut facts) = (vec![], vec![], 0);
-    while alone.len() < options.runs {
+    let mut all = vec![];
+    while all.len() < options.runs {
         let Ok(line) = lines.recv_timeout(options.limit) else { break };
-        let numbers: Vec<u64> = line.split(' ').map(|n| n.parse().expect("a number")).collect();
-        alone.push(Duration::from_nanos(numbers[0]));
-        whole.push(Duration::from_nanos(numbers[1]));
-        facts = numbers[2];
+        all.push(line.split(' ').map(|n| n.parse().expect("a number")).collect());
     }
     let _ = child.kill();
     let _ = child.wait();
     let _ = reader.join();
-    (!alone.is_empty()).then(|| RustTimes { alone: median(alone), whole: median(whole), facts })
+    all
+}
+
+/// None where not one run ended within the limit.
+fn rust(books: &[Book], options: &Options) -> Option<RustTimes> {
+    let runs = lines(&["child".into(), options.runs.to_string()], books, options);
+    let times = |k: usize| median(runs.iter().map(|run| Duration::from_nanos(run[k])).collect());
+    runs.last().map(|run| RustTimes { alone: times(0), whole: times(1), facts: run[2] })
+}
+
+/// The child's work on our side: for each run of the book that it is given in hexadecimal, with such a budget, a line with
+/// its nanoseconds, the code of its end, and its facts. A book that takes long is not run again.
+fn our_child(runs: usize, budget: usize) {
+    let line = std::io::stdin().lock().lines().next().expect("a book").expect("a line");
+    let bytes = unhex(&line).expect("hexadecimal");
+    let individuals = Book::read(&bytes).expect("an accepted book").counts[INDIVIDUALS];
+    let mut library = Library::new().expect("our library");
+    let start = thread_time();
+    for _ in 0..runs {
+        let before = thread_time();
+        let code = library.call(&bytes, budget, individuals);
+        let after = thread_time();
+        println!("{} {code} {}", (after - before).as_nanos(), library.counts[0] + library.counts[1]);
+        if after - start > Duration::from_secs(1) {
+            break;
+        }
+    }
+}
+
+/// A time, and how the run ended: its facts, or that they are more than the budget.
+fn worst_cells(book: &Book, budget: usize, options: &Options) -> [String; 2] {
+    let words = ["ours".into(), options.runs.to_string(), budget.to_string()];
+    let runs = lines(&words, std::slice::from_ref(book), options);
+    let Some(run) = runs.last() else {
+        return ["–".into(), format!("> {}", milliseconds(options.limit))];
+    };
+    let end = if run[1] == 2 { "spent".into() } else { thousands(run[2]) };
+    [end, milliseconds(median(runs.iter().map(|run| Duration::from_nanos(run[0])).collect()))]
+}
+
+fn worst_tables(options: &Options) {
+    println!(
+        "Milliseconds of processor time, each the median of up to {} runs; limit of a run {} s.",
+        options.runs,
+        options.limit.as_secs()
+    );
+    let budgets = BUDGETS.map(|budget| thousands(budget as u64));
+    let columns = ["bytes", "facts", &budgets[0], "facts", &budgets[1]];
+    head("worst books, by budget", &columns.map(String::from));
+    for named in worst::all() {
+        let book = &named.books[0];
+        let bytes = book.bytes();
+        assert!(Book::read(&bytes).is_ok() && bytes.len() <= 65536, "{} is a book", named.name);
+        let cells = BUDGETS.map(|budget| worst_cells(book, budget, options).join(" | "));
+        println!("| {} | {} | {} |", named.name, thousands(bytes.len() as u64), cells.join(" | "));
+    }
+    let sizes = [64, 128, 256, 512];
+    head(&format!("at {}, by individuals", budgets[1]), &sizes.map(|n: u16| thousands(n.into())));
+    let shapes: [(&str, fn(u16) -> Book); 8] = [
+        ("dense, joins", worst::dense_all),
+        ("linked, half of them dense", worst::linked_half),
+        ("one link a round", worst::line),
+        ("chains over loops of half", worst::loops_of_half),
+        ("255 classes each under all, of half", worst::classes_of_half),
+        ("inclusions, a fifth dense", worst::inclusions_of_fifth),
+        ("one class that grows", worst::growing_class),
+        ("ten rounds for each, 3,000 chains beside", worst::odometer_of),
+    ];
+    for (name, shape) in shapes {
+        let cells = sizes.map(|n| worst_cells(&shape(n), BUDGETS[1], options)[1].clone());
+        println!("| {name} | {} |", cells.join(" | "));
+    }
 }
 
 fn milliseconds(time: Duration) -> String {
@@ -208,7 +286,11 @@ fn main() -> ExitCode {
             child(words[1].parse().expect("a number"));
             Ok(())
         }
-        _ => options().map(|options| tables(&options)),
+        Some("ours") => {
+            our_child(words[1].parse().expect("a number"), words[2].parse().expect("a number"));
+            Ok(())
+        }
+        _ => options().map(|options| if options.worst { worst_tables(&options) } else { tables(&options) }),
     };
     match thread.spawn(work).expect("a thread").join() {
         Ok(Ok(())) => ExitCode::SUCCESS,

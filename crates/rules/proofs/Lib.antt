@@ -1,6 +1,7 @@
 pub mod Tests
 pub mod Least
 pub mod Laws
+pub mod Settling
 pub mod Sums
 pub mod Facts
 pub mod Reading
