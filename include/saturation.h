@@ -151,6 +151,37 @@ uint32_t zamoluvel_is_for_on(const uint8_t *book, size_t book_len, uint64_t budg
                              const uint32_t *table, size_t table_len, uint16_t day, uint32_t individual,
                              uint32_t concept, uint32_t *counts, size_t counts_len);
 
+/* What zamoluvel_what_if writes as the end of the copy where none is run. */
+#define ZAMOLUVEL_ALONE 5u
+
+/* What would this statement do? Runs the book, as zamoluvel_saturate does; and where that finishes, what a run of a copy of the book
+ * with the statement behind its others has and this run has not.
+ *
+ *   book, book_len            the bytes of the book, any at all; they are read only
+ *   line, line_len            the bytes of one statement record, any at all; they are read only. A source and days change nothing.
+ *   budget                    as for a run, one for both
+ *   types .. pairs_len        the lists of the present run, as for zamoluvel_saturate
+ *   more_types .. more_pairs_len
+ *                             the lists for what is new: as long as for a run with this budget; the pair list for all pairs of the copy
+ *   counts, counts_len        the first seven entries receive the type, edge and pair counts of the present run, the end of the copy,
+ *                             and the type, edge and pair counts of what is new, as far as there are so many
+ *
+ * Nothing of these may overlap.
+ *
+ * Returns the present end, with its lists and counts, as zamoluvel_saturate does. Where that is not ZAMOLUVEL_FINISHED, the copy's
+ * end is ZAMOLUVEL_ALONE and its lists keep their values. Else it is
+ *   ZAMOLUVEL_FINISHED     the lists have what the copy's run has and the present one has not, in ascending order, and 0 after it
+ *   ZAMOLUVEL_CLASH, ZAMOLUVEL_SPENT
+ *                          the copy's run ends so; every entry of its lists is 0
+ *   ZAMOLUVEL_REFUSED + n  2 and 3 its lists, 6 the book has 4,096 statements, 4, 5, 7, 8, 9 and 16 the record, 10 more bytes than
+ *                          a record, each of these with its lists as they were; 11 its pair list, and every entry is 0
+ */
+uint32_t zamoluvel_what_if(const uint8_t *book, size_t book_len, const uint8_t *line, size_t line_len, uint32_t budget,
+                           uint32_t *types, size_t types_len, uint32_t *edges, size_t edges_len, uint32_t *pairs,
+                           size_t pairs_len, uint32_t *more_types, size_t more_types_len, uint32_t *more_edges,
+                           size_t more_edges_len, uint32_t *more_pairs, size_t more_pairs_len, uint32_t *counts,
+                           size_t counts_len);
+
 /* The part of a list that the facts of a run fill: so many entries of it, from the first on.
  *
  *   end, edge_count, pair_count  what a run returned and wrote; after ZAMOLUVEL_SHOWN and ZAMOLUVEL_NOT_SHOWN

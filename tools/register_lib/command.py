@@ -7,7 +7,7 @@ import sys
 
 import book_format as f
 
-from . import conclusions, days, library, membership, names, readers, why, words
+from . import conclusions, days, library, membership, names, prospect, readers, why, words
 from .packer import MOST_BYTES, Packer
 from .source import AT_FAULT, DONE, NOT_RUN, Source, Stop, decoded, read_bytes
 from .text import Writer, counted, summary
@@ -28,12 +28,12 @@ default-jdk-headless libowlapi-java). Imports are not fetched; they are counted 
 STATUSES = '''Exit status:
   0  done; for conclude: finished; for is: shown
   1  the file is at fault: syntax, a limit of the book, with --strict an axiom that a book cannot hold, a file of readers;
-     for is: a name that the register has not, an expression that a book cannot hold;
+     for is and what-if: a name that the register has not, an expression or axiom that a book cannot hold;
      for show and clean: a refused book, for show also names that do not fit it
   2  wrong usage, a file that cannot be read or written, a program that cannot be run or prints something else,
      a library, Java or an OWL API that is not there
-  3  conclude, is: clash, no world fits the register; why: the register does not conclude the fact, or does not clash
-  4  conclude, is, why: spent, more conclusions than the budget
+  3  conclude, is: clash, no world fits the register; what-if: that, or none would fit it with the axiom; why: the register does not conclude the fact, or does not clash
+  4  conclude, is, what-if, why: spent, more conclusions than the budget
   5  conclude: refused, or a book that is too long for the program
   6  is: not shown
 '''
@@ -91,6 +91,13 @@ part is. Nothing else is ever shown. What is shown holds in every world that fit
 all the same, unless the register is plain and the expression is made of those kinds alone: then it is false in some world
 that fits. With --reader the statements are those that he may read, with --day those in force that day. The proved library answers, with the budget that `need` tells
 where no --budget is given; `{library.BUILD}` builds it.
+'''
+TRIED = SYNTAXES + f'''
+AXIOM is written as in the register, with its prefixes and of its names, such as
+  tools/register what-if examples/plates.ofn 'SubClassOf(:A :B)'
+and is one statement: nothing is changed in FILE. What is printed is what the conclusions of FILE with the axiom have and those of
+FILE have not; or, where both together clash, why, as for `why`. The proved library answers, with the budget that `need` tells where
+no --budget is given; `{library.BUILD}` builds it.
 '''
 EXPLAINED = SYNTAXES + f'''
 The steps are printed in functional-style syntax, facts before what follows from them: only those that the fact rests on,
@@ -239,19 +246,54 @@ def explain(args):
     except Fault as fault:
         raise Stop(AT_FAULT, f'{args.fact}: {fault.words}') from None
     try:
-        rows = listed_rows(data)
-        stands = library.check_rows(data, rows)
+        found = accepted_steps(packer, source, data, fact)
     except library.NotBuilt as missing:
         raise Stop(NOT_RUN, str(missing)) from None
-    if stands != ('standing', len(rows) // why.derivation.WIDTH):
-        raise Stop(NOT_RUN, f'the checker does not accept the rows of the library: {stands[0]} {stands[1]:,}')
-    found = why.steps(packer, source, data, rows, fact)
     if not found:
         raise Stop(NOT_CONCLUDED, f'{args.file}: {"it does not conclude this" if fact else "it does not clash; name a fact"}')
     print(why.text(found), end='')
     if args.svg:
         write_file(pathlib.Path(args.svg), why.svg(found).encode())
     return DONE
+
+
+def try_axiom(args):
+    """What a further axiom would add, or why it would clash."""
+    packer, source = packed(args.file, args.strict, None), Source.of(args.file)
+    try:
+        data, line = prospect.added(packer, args.axiom, len(source.text))
+    except Fault as fault:
+        raise Stop(AT_FAULT, f'{args.axiom}: {fault.words}') from None
+    try:
+        budget = min(library.figure(packer.data())[1], library.MOST_BUDGET) if args.budget is None else args.budget
+        count = f.read(data).counts[f.INDIVIDUALS]
+        rooms = 2 * budget, 3 * budget, count * (count - 1)
+        present, copy = library.what_if(data, line, budget, rooms, rooms)
+    except library.NotBuilt as missing:
+        raise Stop(NOT_RUN, str(missing)) from None
+    if present.end == library.CLASH:
+        print(f'clash: no world fits {args.file}, with this axiom or without it')
+        return conclusions.CLASH
+    if library.SPENT in (present.end, copy.end):
+        print(f'spent: the conclusions have more types and edges than the budget of {budget:,}')
+        return conclusions.SPENT
+    if copy.end == library.CLASH:
+        print(f'clash: no world would fit {args.file} with {args.axiom}')
+        print(why.text(accepted_steps(packer, source, packer.data())), end='')
+        return conclusions.CLASH
+    if copy.end != library.FINISHED:
+        raise Stop(AT_FAULT, f'{args.axiom}: refused {copy.end - library.REFUSED}: {conclusions.CAUSES[copy.end - library.REFUSED]}')
+    print('\n'.join(conclusions.section('Would be added', list(prospect.facts(copy)), packer.names())))
+    return DONE
+
+
+def accepted_steps(packer, source, data, fact=None):
+    """The steps to a fact, or to a clash, of rows that the checker accepts."""
+    rows = listed_rows(data)
+    stands = library.check_rows(data, rows)
+    if stands != ('standing', len(rows) // why.derivation.WIDTH):
+        raise Stop(NOT_RUN, f'the checker does not accept the rows of the library: {stands[0]} {stands[1]:,}')
+    return why.steps(packer, source, data, rows, fact)
 
 
 def listed_rows(data):
@@ -448,6 +490,9 @@ def arguments():
     made.add_argument('--reader', metavar='NAME', help='by the statements that this reader may read')
     made.add_argument('--day', metavar='DATE', type=day, help='by the statements in force on this day, such as 2026-11-15')
     made.add_argument('--readers', metavar='FILE.readers', help='who may read which workshop; FILE with .readers in place of its ending else')
+    made.add_argument('--budget', metavar='N', type=budget, help='a budget of N facts, up to 1000000')
+    made = command('what-if', try_axiom, 'tells what the axiom AXIOM would add to the conclusions of FILE, or why it would clash', TRIED)
+    made.add_argument('axiom', metavar='AXIOM')
     made.add_argument('--budget', metavar='N', type=budget, help='a budget of N facts, up to 1000000')
     made = command('why', explain, 'tells why FILE concludes a fact, or, without one, why it clashes', EXPLAINED)
     made.add_argument('fact', metavar='FACT', nargs='?', help="such as 'ClassAssertion(:Class :individual)', 'ObjectPropertyAssertion(:role :first :second)' or 'SameIndividual(:first :second)'")

@@ -18,6 +18,7 @@ STACK = 16 << 20  # bytes for a call; the header asks for less
 MOST_BUDGET = 1000000
 FINISHED, CLASH, SPENT, REFUSED = 0, 1, 2, 100
 SHOWN, NOT_SHOWN = 3, 4
+ALONE = 5
 WRITTEN = 0
 FIGURE = 0
 JUDGED = 0
@@ -26,6 +27,8 @@ EDGES, PAIRS = 0, 1
 
 # the end as a number, the three counts, and the three lists at exit, as arrays of c_uint32
 Run = namedtuple('Run', 'end type_count edge_count pair_count types edges pairs')
+# the present run, and the same of the copy: what it has beyond the present run, or ALONE as its end
+Effect = namedtuple('Effect', 'present copy')
 
 
 class NotBuilt(Exception):
@@ -66,6 +69,14 @@ def judge(book, budget, type_room, edge_room, pair_room, individual, concept, re
         function, named = function + '_on', [*named, day]
     end = called(function, book, len(book), budget, *lent, *named, individual, concept, counts, len(counts))
     return Run(end, *counts, *lists)
+
+
+def what_if(book, line, budget, rooms, more_rooms, fill=0):
+    """What the bytes of a record would do to a book: rooms for types, edges and pairs of the present run, and for what is new."""
+    lists, lent = lent_lists((*rooms, *more_rooms), fill)
+    counts = (ctypes.c_uint32 * 7)(*[fill] * 7)
+    end = called('zamoluvel_what_if', book, len(book), line, len(line), budget, *lent, counts, len(counts))
+    return Effect(Run(end, *counts[:3], *lists[:3]), Run(*counts[3:], *lists[3:]))
 
 
 def lent_lists(rooms, fill):
@@ -156,6 +167,7 @@ def opened():
         'zamoluvel_is_for': (number, ctypes.c_char_p, size, ctypes.c_uint64, *[numbers, size] * 3, number, numbers, size, number, number, numbers, size),
         'zamoluvel_is_on': (number, ctypes.c_char_p, size, ctypes.c_uint64, *[numbers, size] * 3, ctypes.c_uint16, number, number, numbers, size),
         'zamoluvel_is_for_on': (number, ctypes.c_char_p, size, ctypes.c_uint64, *[numbers, size] * 3, number, numbers, size, ctypes.c_uint16, number, number, numbers, size),
+        'zamoluvel_what_if': (number, ctypes.c_char_p, size, ctypes.c_char_p, size, number, *[numbers, size] * 7),
         'zamoluvel_named_part': (size, *[number] * 4),
         'zamoluvel_small_book': (size, ctypes.c_uint64, ctypes.c_char_p, size),
         'zamoluvel_saturate_rows': (number, ctypes.c_char_p, size, ctypes.c_uint64, *[numbers, size] * 3, *[numbers] * 3),

@@ -20,6 +20,7 @@ use Rattle.rules.specs.Rule.{Set, some}
 use Rattle.rules.specs.Clash.{deniedBy}
 use Rattle.rules.specs.Spoken.{Reader, heedings}
 use Rattle.rules.proofs.Facts.{edge-lt}
+use Rattle.rules.proofs.Tests.{or-right}
 use Rattle.tables.specs.Open.{sizeOf}
 use Rattle.tables.proofs.Tables.{some-append}
 use Rattle.said.proofs.enter.Says.{field-within}
@@ -49,6 +50,26 @@ module _ (s : List ℕ) (h : Counts) (r : Reader) (S : Set) where
 
   pub left-none : (at : ℕ) → heedings r (rest s h at) ≡ [] → false ≡ left at
   left-none at e = sym (ap (λ (xs : List Statement). some (deniedOf xs) S) e)
+
+-- one behind others
+or-turn : (a b c : Bool) → (a || (b || c)) ≡ ((a || b) || c)
+or-turn true b c = refl
+or-turn false b c = refl
+
+pub denied-last : (xs : List Statement) (x : Statement) (S : Set) → some (deniedOf (xs ++ (x ∷ []))) S ≡ (some (deniedOf xs) S || some (deniedBy (x .body)) S)
+denied-last [] x S = denied-more x [] S ∙ or-false _
+denied-last (y ∷ xs) x S =
+    denied-more y (xs ++ (x ∷ [])) S
+    ∙ (ap (λ (b : Bool). some (deniedBy (y .body)) S || b) (denied-last xs x S)
+    ∙ (or-turn (some (deniedBy (y .body)) S) (some (deniedOf xs) S) (some (deniedBy (x .body)) S)
+    ∙ ap (λ (b : Bool). b || some (deniedBy (x .body)) S) (sym (denied-more y xs S))))
+
+module _ (xs : List Statement) (x : Statement) (S : Set) {b : Bool} (e : b ≡ some (deniedBy (x .body)) S) where
+  pub last-denies : b ≡ true → true ≡ some (deniedOf (xs ++ (x ∷ []))) S
+  last-denies i = sym (denied-last xs x S ∙ or-right (some (deniedOf xs) S) (some (deniedBy (x .body)) S) (sym e ∙ i))
+
+  pub last-quiet : {r : Bool} → b ≡ false → r ≡ some (deniedOf xs) S → r ≡ some (deniedOf (xs ++ (x ∷ []))) S
+  last-quiet i q = q ∙ sym (denied-last xs x S ∙ rw (← e, i) (or-false _))
 
 -- a statement that denies nothing leaves it to the others
 pub quiet-next : (s : List ℕ) (h : Counts) (r : Reader) (at next : ℕ) {x : Statement} → heedings r (rest s h at) ≡ x ∷ heedings r (rest s h next) → deniedBy (x .body) ≡ []

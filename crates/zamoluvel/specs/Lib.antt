@@ -1,5 +1,6 @@
 -- What the functions for callers in C return.
 pub mod Is
+pub mod WhatIf
 pub mod Need
 pub mod Run
 pub mod Write

@@ -58,7 +58,7 @@ fn pairs_in(answer: Answer) -> u32
 }
 
 // Makes entry i so, if there is one.
-fn put(counts: &mut [u32], i: usize, count: u32)
+pub fn put(counts: &mut [u32], i: usize, count: u32)
     ensures { λ _. ⌜ now (counts .exit) ≡ set (now (counts .entry)) i count ⌝ }
 {
     if i < counts.len() {

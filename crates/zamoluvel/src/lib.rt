@@ -4,4 +4,5 @@ pub mod is; // is this individual of that concept?
 pub mod need; // what a book will need
 pub mod run; // a run, and the named part of a list
 pub mod small_book; // every small book
+pub mod what_if; // what would this statement do?
 pub mod write; // a book cleaned

@@ -74,7 +74,7 @@ count-all-requires c κs =
 returns : tie.Need-returns
 returns c =
     let p = c .before .before .before .before .before .before .before .before .before .before .before .before .before .before .before .before .before .before .before .before .before .before .before .before .pre in
-    let d = rw (c .before .before .before .before .before .before .before .before .before .before .before .before .before .before .before .before .whole-task .ensures) at (c .before .before .before .before .before .before .before .before .before .draw .ensures) in
+    let d = rw (c .before .before .before .before .before .before .before .before .before .before .before .before .before .before .before .before .whole-task .ensures) at (c .before .before .before .before .before .before .before .before .before .draw .ensures .0) in
     let q = c .before .before .before .before .before .before .before .before .before .before .before .before .before .before .before .before .before .before .before .read-told .ensures in
     c .count-all .ensures ∙ joined-all (p .0) d (omega (arith, p .1 .1)) (q .0)
 
