@@ -259,7 +259,7 @@ uint32_t zamoluvel_figure(const uint8_t *book, size_t book_len, uint32_t *needed
  * that stands is a same pair, and a clash row that stands means that the book clashes.
  *
  * The book, the rows and the count must not overlap; of no entries the pointer may be any that is not null. A call takes
- * some 4 MB of stack.
+ * some 5 MB of stack.
  *
  * Returns
  *   ZAMOLUVEL_JUDGED       so many rows stand

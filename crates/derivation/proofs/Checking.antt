@@ -190,7 +190,7 @@ module _ (s O : List ℕ) (o : Open s (bookOf s .counts) O) (below : (x : ℕ) �
       go nothing q u = absurd (i q)
 
 -- the same for tables that are ready
-module _ {s : List ℕ} {h : Counts} {T L S D K P : List ℕ} (q : Ready s h T L S D K P) (l : List ℕ) (k : ℕ) where
+module _ {s : List ℕ} {h : Counts} {T L S D K P N : List ℕ} {y : Bool} (q : Ready s h T L S D K P N y) (l : List ℕ) (k : ℕ) where
   own : Open s (bookOf s .counts) (q .offsets)
   own = subst (λ (g : Counts). Open s g (q .offsets)) (sym (q .opened .counts)) (q .opened)
 

@@ -1,21 +1,15 @@
 -- A statement that denies what is known, or a fact that a row names, denies one of the three.
-use Prim.Native.Nat.{ℕ, zero, suc, _+_, _<_, _≤_}
-use native.Mathlib.Decide.{ℕ-discrete}
+use Prim.Native.Nat.{ℕ, _<_}
 use native.Mathlib.Omega.{arith}
 use mathlib.Core.Path.{_≡_, refl, ap, ap₂, sym, _∙_, subst}
 use mathlib.Core.Bool.{Bool, true, false, not, _&&_, _||_}
 use mathlib.Core.List.{List, [], _∷_}
 use mathlib.Core.Logic.{⊎-elim}
-use lib.ListN.{length, getD}
 use lib.Dec.{eqb, ltb}
 use borrow.Author.Tests.{eqb-true, eq-eqb}
 use Rattle.book.specs.Header.{Limits}
 use Rattle.book.specs.Book.{Book}
-use Rattle.book.specs.Reader.{turnAt}
 use Rattle.book.specs.declared.header.Counts.{Counts}
-use Rattle.book.specs.declared.reader.Turn.{Turn}
-use Rattle.book.specs.declared.reader.Turn.the-variants.{Next, End}
-use Rattle.book.specs.declared.statement.Statement.{Statement}
 use Rattle.book.specs.Within.{Every, Within}
 use Rattle.book.specs.declared.statement.Axiom.{Axiom}
 use Rattle.book.specs.declared.statement.Axiom.the-variants.{SubClassOf, EquivalentClasses, DisjointClasses, InverseObjectProperties, SubObjectPropertyOf, TransitiveRole, SymmetricRole, FunctionalRole, InverseFunctionalRole, ObjectPropertyDomain, ObjectPropertyRange, SameIndividual, ClassAssertion, ObjectPropertyAssertion, DifferentIndividuals, NegativeObjectPropertyAssertion}
@@ -25,11 +19,9 @@ use Rattle.rules.specs.ToldSame.{same}
 use Rattle.rules.proofs.Tests.{false-true, both-ways, or-cases, or-left, or-right}
 use Rattle.rules.proofs.Facts.{edge-lt, pair-lt}
 use Rattle.derivation.specs.Rows.{none, Claim, oneOf, factIn}
-use Rattle.tables.specs.Open.{bookOf}
-use Rattle.derivation.specs.Accept.{statements, member, deniesOne}
+use Rattle.derivation.specs.Accept.{deniesOne}
 use Rattle.derivation.specs.declared.row.Row.{Row}
 use Rattle.derivation.specs.declared.row.Premises.{Premises}
-use Rattle.derivation.specs.Tables.{Starts}
 use Rattle.derivation.specs.Judging.{denialFits, clashFitsRow}
 use Rattle.derivation.specs.Fits.{joins, changes, denyFits, clashFits, oneOfThree, anyTwo}
 use Rattle.derivation.proofs.Judging.{Low, slot-three, three-slot, taken, named}
@@ -101,65 +93,6 @@ module _ (a b c : Claim) (la : Low a) (lb : Low b) (lc : Low c) where
     pub denial-tried : (l : List Axiom) → Every (Within (B .counts)) l → some l (deniesOne B P) ≡ some l (λ x. three (denyFits B x))
     denial-tried [] w = refl
     denial-tried (x ∷ l) w = ap₂ _||_ (deny-tried x (w .0)) (denial-tried l (w .1))
-
--- ---- statement by statement
-
-apart : {A : Type 0} {X : Type 0} {x : X} → _≡_ {A = List X} [] (x ∷ []) → A
-apart e = absurd (let o : _≡_ {A = ℕ} 0 1 = cc in omega arith)
-
-member-some : {A : Type 0} (f : A → Bool) (l : List A) (k : ℕ) (x : A) → member l k ≡ x ∷ [] → f x ≡ true → some l f ≡ true
-member-some f [] k x e t = apart e
-member-some f (y ∷ l) zero x e t = let q : x ≡ y = cc in or-left (f y) _ (subst (λ z. f z ≡ true) q t)
-member-some f (y ∷ l) (suc k) x e t = or-right (f y) _ (member-some f l k x e t)
-
-none-some : {A : Type 0} (f : A → Bool) (l : List A) → ((j : ℕ) → j < length l → (x : A) → member l j ≡ x ∷ [] → f x ≡ false) → some l f ≡ false
-none-some f [] h = refl
-none-some f (y ∷ l) h = rw (h 0 (omega arith) y refl) (none-some f l (λ j l x e. h (suc j) (omega arith) x e))
-
-abbrev ofThree : Premises → (ℕ → Bool) → Bool
-ofThree p = oneOfThree (p .one) (p .two) (p .three)
-
--- the answer about the statement at an offset
-abbrev pub AtLaw : List ℕ → Counts → ℕ → Premises → Bool → Type 0
-AtLaw s h at p x = (z : Statement) (next : ℕ) → turnAt s h at ≡ Next z next → x ≡ ofThree p (denyFits (bookOf s) (z .body))
-
--- none of the first k statements denies
-abbrev pub Quiet : List ℕ → Premises → ℕ → Type 0
-Quiet s p k = (j : ℕ) → j < k → (x : Axiom) → member (statements (bookOf s)) j ≡ x ∷ [] → ofThree p (denyFits (bookOf s) x) ≡ false
-
-module _ (s : List ℕ) (h : Counts) (at : ℕ) (p : Premises) where
-  pub at-end : {t : Turn} → t ≡ turnAt s h at → t ≡ End → AtLaw s h at p false
-  at-end {t} e g z next i = let w : Next z next ≡ End = sym i ∙ (sym e ∙ g) in absurd (let o : _≡_ {A = ℕ} 0 1 = cc in omega arith)
-
-  pub at-next : {t : Turn} {y : Statement} {m : ℕ} {x : Bool} → t ≡ turnAt s h at → t ≡ Next y m → x ≡ ofThree p (denyFits (bookOf s) (y .body)) → AtLaw s h at p x
-  at-next {t} {y} {m} e g q z next i =
-      let w : Next y m ≡ Next z next = sym g ∙ (e ∙ i) in
-      let o : y ≡ z = cc in
-      q ∙ ap (λ (v : Statement). ofThree p (denyFits (bookOf s) (v .body))) o
-
--- the answer about all
-module _ (s : List ℕ) (h : Counts) (T : List ℕ) (starts : Starts s h (statements (bookOf s)) T) (count : length (statements (bookOf s)) ≡ h .statements) (p : Premises) where
-  module _ (k : ℕ) (below : k < h .statements) {x : Bool} (law : AtLaw s h (getD T k 0) p x) where
-    here : (y : Statement) × (next : ℕ) × (turnAt s h (getD T k 0) ≡ Next y next) × (member (statements (bookOf s)) k ≡ y .body ∷ [])
-    here = starts k (omega (arith, count))
-
-    pub denial-found : x ≡ true → true ≡ denialFits (bookOf s) p
-    unfolding denialFits
-    denial-found e = sym (member-some (λ y. ofThree p (denyFits (bookOf s) y)) (statements (bookOf s)) k (here .0 .body) (here .3) (sym (law (here .0) (here .1) (here .2)) ∙ e))
-
-    pub quiet-more : x ≡ false → Quiet s p k → Quiet s p (k + 1)
-    quiet-more e q j l y m = go (ℕ-discrete j k)
-      where
-        go : Dec (j ≡ k) → ofThree p (denyFits (bookOf s) y) ≡ false
-        go (yes i) =
-            let w : here .0 .body ∷ [] ≡ y ∷ [] = sym (here .3) ∙ subst (λ (n : ℕ). member (statements (bookOf s)) n ≡ y ∷ []) i m in
-            let o : here .0 .body ≡ y = cc in
-            subst (λ (z : Axiom). ofThree p (denyFits (bookOf s) z) ≡ false) o (sym (law (here .0) (here .1) (here .2)) ∙ e)
-        go (no n) = q j (omega arith) y m
-
-  pub denial-none : (k : ℕ) → h .statements ≤ k → Quiet s p k → false ≡ denialFits (bookOf s) p
-  unfolding denialFits
-  denial-none k l q = sym (none-some (λ y. ofThree p (denyFits (bookOf s) y)) (statements (bookOf s)) λ j m x e. q j (omega (arith, count)) x e)
 
 -- the answers about a row of rule 8
 module _ (h : Counts) (B : Book) (r : Row) (p : Premises) where

@@ -7,8 +7,10 @@ pub mod Fitting
 pub mod Judging
 pub mod Clashing
 pub mod Denying
+pub mod Noting
 pub mod Slots
 pub mod Claims
+pub mod Chaining
 pub mod Orders
 pub mod Checking
 pub mod Leaves

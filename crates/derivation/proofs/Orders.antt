@@ -2,7 +2,7 @@
 use Prim.Native.Nat.{ℕ, _<_, _≤_}
 use native.Mathlib.Omega.{arith}
 use mathlib.Core.Path.{_≡_, refl, ap, ap₂, sym, _∙_}
-use mathlib.Core.Bool.{Bool, true, false, _&&_}
+use mathlib.Core.Bool.{Bool, true, false, _&&_, _||_}
 use mathlib.Core.List.{List}
 use lib.ListN.{getD}
 use lib.Dec.{eqb, ltb}
@@ -14,24 +14,37 @@ use Rattle.book.specs.declared.role.Role.the-variants.{Named}
 use Rattle.rows.specs.Row.{has}
 use Rattle.rules.specs.Fact.{type}
 use Rattle.rules.specs.ToldSame.{same}
-use Rattle.rules.proofs.Tests.{or-left, or-right}
-use Rattle.derivation.specs.Fits.{leadsFrom, leadsTo, bearer, classIn, roleIn, isEdge, changes, shareTypes, shareEdges, clashFits, oneOfThree}
+use Rattle.rules.proofs.Tests.{false-true, or-left, and-both}
+use Rattle.derivation.specs.Fits.{leadsFrom, leadsTo, bearer, classIn, roleIn, isEdge, changes, shareTypes, shareEdges, shareFits, clashFits, oneOfThree}
 use Rattle.derivation.specs.Tables.{toldSame, oneClassBy, LabelsOf, PairsOf}
-use Rattle.derivation.proofs.Fitting.{is-edge}
-
-module _ (p q t : ℕ) (test : ℕ → Bool) where
-  pub at-first : {r : Bool} → r ≡ test p → r ≡ true → true ≡ oneOfThree p q t test
-  at-first e i = sym (or-left (test p) _ (sym e ∙ i))
-
-  pub at-second : {r : Bool} → r ≡ test q → r ≡ true → true ≡ oneOfThree p q t test
-  at-second e i = sym (or-right (test p) _ (or-left (test q) (test t) (sym e ∙ i)))
-
-  pub at-third : {a b r : Bool} → a ≡ test p → a ≡ false → b ≡ test q → b ≡ false → r ≡ test t → r ≡ oneOfThree p q t test
-  at-third e i f j g = rw (sym e ∙ i, sym f ∙ j) g
+use Rattle.derivation.proofs.Fitting.{IsEdge, is-edge}
+use Rattle.derivation.proofs.Chaining.{three-same, three-none, both-ends, either-shared}
 
 and-false : (a : Bool) → false ≡ (a && false)
 and-false true = refl
 and-false false = refl
+
+all-none : (a b c d e z : Bool) → (a && (b && (c && (d && e)))) ≡ false → (a && (b && (c && (d && (e && z))))) ≡ false
+all-none false b c d e z i = refl
+all-none true false c d e z i = refl
+all-none true true false d e z i = refl
+all-none true true true false e z i = refl
+all-none true true true true false z i = refl
+all-none true true true true true z i = false-true (sym i)
+
+all-same : (a b c d e z : Bool) → (a && (b && (c && (d && e)))) ≡ true → (a && (b && (c && (d && (e && z))))) ≡ z
+all-same false b c d e z i = false-true i
+all-same true false c d e z i = false-true i
+all-same true true false d e z i = false-true i
+all-same true true true false e z i = false-true i
+all-same true true true true false z i = false-true i
+all-same true true true true true z i = refl
+
+edge-none : (a b c z : Bool) → (b && c) ≡ false → (a && (b && (c && z))) ≡ false
+edge-none false b c z i = refl
+edge-none true false c z i = refl
+edge-none true true false z i = refl
+edge-none true true true z i = false-true (sym i)
 
 module _ (n : ℕ) (K : List ℕ) (i j : ℕ) where
   pub same-yes : {r : Bool} → i < n → j < n → r ≡ eqb (getD K i 0) (getD K j 0) → r ≡ toldSame n K i j
@@ -46,6 +59,9 @@ module _ (n : ℕ) (K : List ℕ) (i j : ℕ) where
   unfolding toldSame
   same-first l = rw (le-ltb i n l) refl
 
+  pub told-class : (p q r : ℕ) {a : Bool} → a ≡ toldSame n K i j → a ≡ true → true ≡ oneOfThree p q r (oneClassBy n K i j)
+  told-class p q r e k = sym (or-left (oneClassBy n K i j p) _ (or-left (toldSame n K i j) _ (sym e ∙ k)))
+
 module _ {B : Book} {h : Counts} {K : List ℕ} (t : LabelsOf B h K) where
   told-is : (i j : ℕ) → ltb i (h .individuals) ≡ true → ltb j (h .individuals) ≡ true → toldSame (h .individuals) K i j ≡ same B i j
   unfolding toldSame
@@ -55,53 +71,102 @@ module _ {B : Book} {h : Counts} {K : List ℕ} (t : LabelsOf B h K) where
   unfolding changes
   one-class-is i j x e f = rw (told-is i j e f) refl
 
-  pub pair-denied : (i j x : ℕ) {s : Bool} → i < h .individuals → j < h .individuals → s ≡ oneClassBy (h .individuals) K i j x → s ≡ changes B i j x
-  pair-denied i j x l m e = e ∙ one-class-is i j x (lt-ltb i _ l) (lt-ltb j _ m)
+  pub pair-told : (i j : ℕ) → i < h .individuals → j < h .individuals → toldSame (h .individuals) K i j ≡ same B i j
+  pair-told i j l m = told-is i j (lt-ltb i _ l) (lt-ltb j _ m)
 
-  pub types-share : (f g x : ℕ) {i j c u v : ℕ} {s : Bool} → i ≡ bearer g → j ≡ bearer f → c ≡ classIn g → u ≡ type i c → v ≡ type j c
-      → s ≡ oneClassBy (h .individuals) K i j x
-      → (ltb i (h .individuals) && (ltb j (h .individuals) && (ltb c (h .classes) && (eqb g u && (eqb f v && s))))) ≡ shareTypes h B f g x
-  unfolding shareTypes
-  types-share f g x ei ej ec eu ev es = rw (es, ev, eu, ec, ei, ej) (go (ltb (bearer g) (h .individuals)) (ltb (bearer f) (h .individuals)) refl refl)
-    where
-      go : (a b : Bool) → ltb (bearer g) (h .individuals) ≡ a → ltb (bearer f) (h .individuals) ≡ b
-          → (a && (b && (ltb (classIn g) (h .classes) && (eqb g (type (bearer g) (classIn g)) && (eqb f (type (bearer f) (classIn g))
-          && oneClassBy (h .individuals) K (bearer g) (bearer f) x)))))
-          ≡ (a && (b && (ltb (classIn g) (h .classes) && (eqb g (type (bearer g) (classIn g)) && (eqb f (type (bearer f) (classIn g))
-          && changes B (bearer g) (bearer f) x)))))
-      go true true p q = rw (one-class-is (bearer g) (bearer f) x p q) refl
-      go true false p q = refl
-      go false b p q = refl
+  module _ (p q r : ℕ) where
+    -- a type of the same class
+    abbrev Alike : ℕ → ℕ → ℕ → ℕ → ℕ → ℕ → ℕ → Bool → Type 0
+    Alike f g i j c u v y = (ltb i (h .individuals) && (ltb j (h .individuals) && (ltb c (h .classes) && (eqb g u && eqb f v)))) ≡ y
 
-  pub edges-none : (f g x y : ℕ) {r : ℕ} → r ≡ roleIn g → h .roles ≤ r → false ≡ shareEdges h B f g x y
-  unfolding shareEdges
-  edges-none f g x y {r} e l = let m : h .roles ≤ roleIn g = omega arith in rw (le-ltb (roleIn g) (h .roles) m) refl
+    module _ (f g : ℕ) {i j c u v : ℕ} (ei : i ≡ bearer g) (ej : j ≡ bearer f) (ec : c ≡ classIn g) (eu : u ≡ type i c) (ev : v ≡ type j c) where
+      alike-is : {y : Bool} → Alike f g i j c u v y → Alike f g (bearer g) (bearer f) (classIn g) (type (bearer g) (classIn g)) (type (bearer f) (classIn g)) y
+      alike-is e = rw (eu, ev, ei, ej, ec) at e
 
-  pub edges-share : Limits h → (f g x y : ℕ) {r i j k m : ℕ} {first second one other : Bool} → r ≡ roleIn g → r < h .roles
-      → i ≡ leadsFrom (Named 0) g → j ≡ leadsFrom (Named 0) f → first ≡ oneClassBy (h .individuals) K i j x
-      → k ≡ leadsTo (Named 0) g → m ≡ leadsTo (Named 0) f → second ≡ oneClassBy (h .individuals) K k m y
-      → one ≡ isEdge (h .individuals) (Named r) g → other ≡ isEdge (h .individuals) (Named r) f
-      → (one && (other && (first && second))) ≡ shareEdges h B f g x y
-  unfolding shareEdges
-  edges-share top f g x y {r} er lr ei ej e1 ek em e2 eo eh =
-      let l : ltb (roleIn g) (h .roles) ≡ true = ap (λ (k : ℕ). ltb k (h .roles)) (sym er) ∙ lt-ltb r (h .roles) lr in
-      rw (e1, e2, eo, eh, ei, ej, ek, em, er, l) (go (isEdge (h .individuals) (Named (roleIn g)) g) (isEdge (h .individuals) (Named (roleIn g)) f) refl refl)
-    where
-      low : roleIn g < 64
-      low = omega (arith, er, lr, top .roles-top)
+      pub types-none : Alike f g i j c u v false → false ≡ oneOfThree p q r (shareTypes h B f g)
+      unfolding shareTypes
+      types-none e =
+          three-none p q r _ λ x. all-none (ltb (bearer g) (h .individuals)) (ltb (bearer f) (h .individuals)) (ltb (classIn g) (h .classes)) (eqb g (type (bearer g) (classIn g))) (eqb f (type (bearer f) (classIn g)))
+          (changes B (bearer g) (bearer f) x) (alike-is e)
 
-      go : (a b : Bool) → isEdge (h .individuals) (Named (roleIn g)) g ≡ a → isEdge (h .individuals) (Named (roleIn g)) f ≡ b
-          → (a && (b && (oneClassBy (h .individuals) K (leadsFrom (Named 0) g) (leadsFrom (Named 0) f) x
-          && oneClassBy (h .individuals) K (leadsTo (Named 0) g) (leadsTo (Named 0) f) y)))
-          ≡ (a && (b && (changes B (leadsFrom (Named 0) g) (leadsFrom (Named 0) f) x && changes B (leadsTo (Named 0) g) (leadsTo (Named 0) f) y)))
-      go true true u v =
-          let i = is-edge (h .individuals) (top .individuals-top) (Named (roleIn g)) g low u in
-          let j = is-edge (h .individuals) (top .individuals-top) (Named (roleIn g)) f low v in
-          ap₂ _&&_
-          (one-class-is (leadsFrom (Named 0) g) (leadsFrom (Named 0) f) x (lt-ltb (leadsFrom (Named 0) g) _ (i .from-low)) (lt-ltb (leadsFrom (Named 0) f) _ (j .from-low)))
-          (one-class-is (leadsTo (Named 0) g) (leadsTo (Named 0) f) y (lt-ltb (leadsTo (Named 0) g) _ (i .to-low)) (lt-ltb (leadsTo (Named 0) f) _ (j .to-low)))
-      go true false u v = refl
-      go false b u v = refl
+      pub types-share : {s : Bool} → Alike f g i j c u v true → s ≡ oneOfThree p q r (oneClassBy (h .individuals) K i j) → s ≡ oneOfThree p q r (shareTypes h B f g)
+      unfolding shareTypes
+      types-share e w =
+          let a = alike-is e in
+          let l = and-both (ltb (bearer g) (h .individuals)) _ a in
+          let m = and-both (ltb (bearer f) (h .individuals)) _ (l .1) in
+          (rw (ei, ej) at w)
+          ∙ three-same p q r _ _ λ x. one-class-is (bearer g) (bearer f) x (l .0) (m .0)
+          ∙ sym (all-same (ltb (bearer g) (h .individuals)) (ltb (bearer f) (h .individuals)) (ltb (classIn g) (h .classes)) (eqb g (type (bearer g) (classIn g))) (eqb f (type (bearer f) (classIn g)))
+          (changes B (bearer g) (bearer f) x) a)
+
+    module _ (f g : ℕ) {k : ℕ} (er : k ≡ roleIn g) where
+      pub edges-past : h .roles ≤ k → false ≡ oneOfThree p q r (λ x. oneOfThree p q r (shareEdges h B f g x))
+      unfolding shareEdges
+      edges-past l =
+          let m : h .roles ≤ roleIn g = omega arith in
+          three-none p q r (λ x. oneOfThree p q r (shareEdges h B f g x)) λ x. sym (three-none p q r (shareEdges h B f g x) λ y. rw (le-ltb (roleIn g) (h .roles) m) refl)
+
+      -- an edge of the same role
+      module _ {one other y : Bool} (eo : one ≡ isEdge (h .individuals) (Named k) g) (eh : other ≡ isEdge (h .individuals) (Named k) f) (alike : (one && other) ≡ y) where
+        edges-are : (isEdge (h .individuals) (Named (roleIn g)) g && isEdge (h .individuals) (Named (roleIn g)) f) ≡ y
+        edges-are = rw (eo, eh, er) at alike
+
+        pub edges-none : y ≡ false → false ≡ oneOfThree p q r (λ x. oneOfThree p q r (shareEdges h B f g x))
+        unfolding shareEdges
+        edges-none e =
+            three-none p q r (λ x. oneOfThree p q r (shareEdges h B f g x)) λ x. sym (three-none p q r (shareEdges h B f g x) λ z. edge-none
+            (ltb (roleIn g) (h .roles)) (isEdge (h .individuals) (Named (roleIn g)) g) (isEdge (h .individuals) (Named (roleIn g)) f)
+            (changes B (leadsFrom (Named 0) g) (leadsFrom (Named 0) f) x && changes B (leadsTo (Named 0) g) (leadsTo (Named 0) f) z) (edges-are ∙ e))
+
+        pub edges-share : Limits h → k < h .roles → y ≡ true → {i j m n : ℕ} {first second : Bool}
+            → i ≡ leadsFrom (Named 0) g → j ≡ leadsFrom (Named 0) f → first ≡ oneOfThree p q r (oneClassBy (h .individuals) K i j)
+            → m ≡ leadsTo (Named 0) g → n ≡ leadsTo (Named 0) f → second ≡ oneOfThree p q r (oneClassBy (h .individuals) K m n)
+            → (first && second) ≡ oneOfThree p q r (λ x. oneOfThree p q r (shareEdges h B f g x))
+        unfolding shareEdges
+        edges-share top lr e ei ej e1 em en e2 =
+            ap₂ _&&_ ((rw (ei, ej) at e1) ∙ three-same p q r _ _ from-is) ((rw (em, en) at e2) ∙ three-same p q r _ _ to-is)
+            ∙ (both-ends p q r from-by to-by
+            ∙ three-same p q r (λ x. oneOfThree p q r (λ z. from-by x && to-by z)) (λ x. oneOfThree p q r (shareEdges h B f g x))
+            λ x. three-same p q r (λ z. from-by x && to-by z) (shareEdges h B f g x) λ z. rw (lt-ltb (roleIn g) (h .roles) low, ends .0, ends .1) refl)
+          where
+            from-by : ℕ → Bool
+            from-by = changes B (leadsFrom (Named 0) g) (leadsFrom (Named 0) f)
+
+            to-by : ℕ → Bool
+            to-by = changes B (leadsTo (Named 0) g) (leadsTo (Named 0) f)
+
+            low : roleIn g < h .roles
+            low = omega (arith, er, lr)
+
+            few : roleIn g < 64
+            few = omega (arith, low, top .roles-top)
+
+            ends : (isEdge (h .individuals) (Named (roleIn g)) g ≡ true) × (isEdge (h .individuals) (Named (roleIn g)) f ≡ true)
+            ends = and-both _ _ (edges-are ∙ e)
+
+            g-edge : IsEdge (h .individuals) (Named (roleIn g)) g
+            g-edge = is-edge (h .individuals) (top .individuals-top) (Named (roleIn g)) g few (ends .0)
+
+            f-edge : IsEdge (h .individuals) (Named (roleIn g)) f
+            f-edge = is-edge (h .individuals) (top .individuals-top) (Named (roleIn g)) f few (ends .1)
+
+            from-is : (x : ℕ) → oneClassBy (h .individuals) K (leadsFrom (Named 0) g) (leadsFrom (Named 0) f) x ≡ changes B (leadsFrom (Named 0) g) (leadsFrom (Named 0) f) x
+            from-is x = one-class-is _ _ x (lt-ltb (leadsFrom (Named 0) g) _ (g-edge .from-low)) (lt-ltb (leadsFrom (Named 0) f) _ (f-edge .from-low))
+
+            to-is : (x : ℕ) → oneClassBy (h .individuals) K (leadsTo (Named 0) g) (leadsTo (Named 0) f) x ≡ changes B (leadsTo (Named 0) g) (leadsTo (Named 0) f) x
+            to-is x = one-class-is _ _ x (lt-ltb (leadsTo (Named 0) g) _ (g-edge .to-low)) (lt-ltb (leadsTo (Named 0) f) _ (f-edge .to-low))
+
+-- ---- a type or an edge
+
+module _ (p q r : ℕ) (h : Counts) (B : Book) (f g : ℕ) {a : Bool} (e : a ≡ oneOfThree p q r (shareTypes h B f g)) where
+  pub shared-type : a ≡ true → true ≡ oneOfThree p q r (λ x. oneOfThree p q r (shareFits h B f g x))
+  unfolding shareFits
+  shared-type i = sym (either-shared p q r (shareTypes h B f g) (shareEdges h B f g) ∙ or-left _ _ (sym e ∙ i))
+
+  pub shared-edge : {b : Bool} → a ≡ false → b ≡ oneOfThree p q r (λ x. oneOfThree p q r (shareEdges h B f g x)) → b ≡ oneOfThree p q r (λ x. oneOfThree p q r (shareFits h B f g x))
+  unfolding shareFits
+  shared-edge {b} i w = w ∙ sym (either-shared p q r (shareTypes h B f g) (shareEdges h B f g) ∙ ap (λ z. z || oneOfThree p q r (λ x. oneOfThree p q r (shareEdges h B f g x))) (sym e ∙ i))
 
 module _ {B : Book} {h : Counts} {P : List ℕ} (t : PairsOf B h P) (g k : ℕ) where
   pub clash-first : {c : ℕ} → c ≡ classIn g → h .classes ≤ c → false ≡ clashFits h B g k

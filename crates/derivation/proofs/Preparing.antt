@@ -2,6 +2,7 @@
 use Prim.Native.Nat.{ℕ, _+_, _*_, _/_, _%_, _<_, _≤_}
 use native.Mathlib.Omega.{arith}
 use mathlib.Core.Path.{_≡_, refl, ap, ap₂, sym, subst}
+use mathlib.Core.Bool.{Bool}
 use mathlib.Core.List.{List}
 use lib.ListN.{length, getD, replicate, length-replicate}
 use lib.Dec.{eqb}
@@ -28,6 +29,7 @@ use Rattle.derivation.specs.Accept.{statements, stands, standRows, fault
 use Rattle.derivation.specs.Tables.{ConceptsOf, LabelsOf, PairsOf}
 use Rattle.derivation.specs.Collected.{Slotted, Deep}
 use Rattle.derivation.specs.Pairs.{bringsClash, Paired}
+use Rattle.derivation.specs.Denied.{Denied}
 use Rattle.derivation.specs.Entering.{Begin, Entered}
 use Rattle.derivation.specs.Judging.{Ready, Stated, Marked}
 use Rattle.derivation.proofs.Leaves.{deep-has}
@@ -63,8 +65,8 @@ module _ {s O : List ℕ} {h : Counts} (o : Open s h O) where
 
 -- ---- all tables
 
-pub ready-of : {s O L T K P S D : List ℕ} {h : Counts} → Stated s h O L T K P → length S ≡ 65793 → 262144 ≤ length D → Slotted (h .concepts) L S → Deep (bookOf s) (h .concepts) L S (h .concepts) D → Ready s h T L S D K P
-ready-of {s} {O} {L} {T} {K} {P} {S} {D} {h} q e l slotted deep = record {
+pub ready-of : {s O L T K P S D N : List ℕ} {h : Counts} {y : Bool} → Stated s h O L T K P → Denied (bookOf s) (statements (bookOf s)) N y → length S ≡ 65793 → 262144 ≤ length D → Slotted (h .concepts) L S → Deep (bookOf s) (h .concepts) L S (h .concepts) D → Ready s h T L S D K P N y
+ready-of {s} {O} {L} {T} {K} {P} {S} {D} {N} {h} q w e l slotted deep = record {
   offsets = O;
   opened = q .opened;
   prepared = record {
@@ -84,6 +86,7 @@ ready-of {s} {O} {L} {T} {K} {P} {S} {D} {h} q e l slotted deep = record {
   labels = q .labels;
   pairs-room = q .pairs-room;
   pairs = q .pairs;
+  denied = w;
 }
 
 -- ---- pairs of classes

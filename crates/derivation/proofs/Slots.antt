@@ -238,6 +238,25 @@ module _ {B : Book} {h : Counts} {L S D : List ℕ} (t : ConceptsOf B h L S D) (
   unfolding bringFits
   bring-fit e q w z = rw (z, w, q, left-is e, or-false (eqb g (type (bearer g) (getD L c 0 % 1048576)))) refl
 
+  -- the premise is told apart first
+  pub bring-told : {a y : ℕ} {told : Bool} → eqb (kindIn (getD L c 0)) 1 ≡ true → a ≡ bearer g → told ≡ toldFits (concept B d) a f → y ≡ type a (getD L c 0 % 1048576)
+      → (ltb a n && eqb g y) ≡ true → told ≡ bringFits n (concept B c) (concept B d) f g
+  bring-told {a} {y} {told} e q w z k = go (ltb a n) (eqb g y) k ∙ bring-fit e q w z
+    where
+      go : (u v : Bool) → (u && v) ≡ true → told ≡ (u && (v && told))
+      go true true i = refl
+      go true false i = false-true i
+      go false v i = false-true i
+
+  pub bring-other : {a y : ℕ} → eqb (kindIn (getD L c 0)) 1 ≡ true → a ≡ bearer g → y ≡ type a (getD L c 0 % 1048576)
+      → (ltb a n && eqb g y) ≡ false → false ≡ bringFits n (concept B c) (concept B d) f g
+  bring-other {a} {y} e q z k = go (ltb a n) (eqb g y) k ∙ bring-fit e q refl z
+    where
+      go : (u v : Bool) → (u && v) ≡ false → false ≡ (u && (v && toldFits (concept B d) a f))
+      go true true i = false-true (sym i)
+      go true false i = refl
+      go false v i = refl
+
   pub bring-none : eqb (kindIn (getD L c 0)) 1 ≡ false → false ≡ bringFits n (concept B c) (concept B d) f g
   unfolding bringFits
   bring-none e =

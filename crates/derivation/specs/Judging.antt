@@ -20,6 +20,7 @@ use Rattle.derivation.specs.declared.check.Judgement.the-variants.{Stand
 use Rattle.derivation.specs.Rows.{none}
 use Rattle.derivation.specs.Accept.{statements, ruleNumber, member, Judged, standRows, faultyBook}
 use Rattle.derivation.specs.Fits.{fits, shareFits, denyFits, clashFits, oneOfThree, anyOrder, anyTwo}
+use Rattle.derivation.specs.Denied.{Denied}
 use Rattle.derivation.specs.Tables.{Concepts, ConceptsOf, LabelsOf, PairsOf, Starts}
 
 -- the tables of concepts and of statements, ready for a row
@@ -31,7 +32,7 @@ pub record Prepared (s : List ℕ) (h : Counts) (T L S D : List ℕ) : Type 0 wh
   pub of : ConceptsOf (bookOf s) h L S D
 
 -- all tables
-pub record Ready (s : List ℕ) (h : Counts) (T L S D K P : List ℕ) : Type 0 where
+pub record Ready (s : List ℕ) (h : Counts) (T L S D K P N : List ℕ) (y : Bool) : Type 0 where
   pub offsets : List ℕ
   pub opened : Open s h offsets
   pub prepared : Prepared s h T L S D
@@ -39,6 +40,7 @@ pub record Ready (s : List ℕ) (h : Counts) (T L S D K P : List ℕ) : Type 0 w
   pub labels : LabelsOf (bookOf s) h K
   pub pairs-room : 2048 ≤ length P
   pub pairs : PairsOf (bookOf s) h P
+  pub denied : Denied (bookOf s) (statements (bookOf s)) N y
 
 -- before the tables of leaves at any depth are filled
 pub record Stated (s : List ℕ) (h : Counts) (O L T K P : List ℕ) : Type 0 where

@@ -5,11 +5,15 @@ ghost use lib.ListN.{length};
 ghost use Rattle.book.specs.Book.{Book};
 ghost use Rattle.book.specs.Header.{Limits};
 ghost use Rattle.book.specs.Within.{Within};
-ghost use Rattle.derivation.specs.Fits.{fits as fitsBy, shareTypes, shareEdges, shareFits as sharesBy, clashFits as clashesBy, denyFits, oneOfThree, anyOrder, anyTwo};
+ghost use Rattle.derivation.specs.Fits.{fits as fitsBy, joins as joinsBy, shareTypes, shareEdges, shareFits as sharesBy, clashFits as clashesBy, oneOfThree, anyOrder, anyTwo};
 ghost use Rattle.derivation.specs.Tables.{Concepts, ConceptsOf, toldSame, oneClassBy, LabelsOf, PairsOf};
+use super::chain::Chain;
+use super::chain::chain_of;
+use super::chain::fillers_fit;
+use super::chain::pair_fits;
+use super::chain::triple_fits;
 use super::fact::bearer;
 use super::fact::class_in;
-use super::fact::edge_of;
 use super::fact::is_edge;
 use super::fact::leads_from;
 use super::fact::leads_to;
@@ -23,7 +27,8 @@ use book::role::Role;
 use book::statement::Axiom;
 use rows::row::member;
 
-fn third_fits(
+// Where a rule looks at one premise at most: any of the facts p.
+fn alone_fits(
     statement: Axiom,
     counts: Counts,
     leaves: &[u32],
@@ -31,43 +36,48 @@ fn third_fits(
     deep: &[u64],
     f: u32,
     p: Premises,
-    g: u32,
-    h: u32,
 ) -> bool
     requires { ⌜ Concepts counts (now leaves) (now slots) (now deep) ⌝ }
     requires { ⌜ Within counts statement ⌝ }
-    ensures { λ x. ⌜ ((B : Book) → ConceptsOf B counts (now (leaves .entry)) (now (slots .entry)) (now (deep .entry)) → x ≡ oneOfThree (p .one) (p .two) (p .three) (λ k. fitsBy B statement f g h k)) ⌝ }
+    ensures { λ x. ⌜ ((B : Book) → ConceptsOf B counts (now (leaves .entry)) (now (slots .entry)) (now (deep .entry)) → x ≡ oneOfThree (p .one) (p .two) (p .three) (λ g. fitsBy B statement f g g g)) ⌝ }
 {
-    if fits(statement, counts, leaves, slots, deep, f, g, h, p.one) {
+    if fits(
+        statement,
+        counts,
+        leaves,
+        slots,
+        deep,
+        f,
+        p.one,
+        p.one,
+        p.one,
+    ) {
         return true;
     }
-    if fits(statement, counts, leaves, slots, deep, f, g, h, p.two) {
+    if fits(
+        statement,
+        counts,
+        leaves,
+        slots,
+        deep,
+        f,
+        p.two,
+        p.two,
+        p.two,
+    ) {
         return true;
     }
-    fits(statement, counts, leaves, slots, deep, f, g, h, p.three)
-}
-
-fn second_fits(
-    statement: Axiom,
-    counts: Counts,
-    leaves: &[u32],
-    slots: &[u32],
-    deep: &[u64],
-    f: u32,
-    p: Premises,
-    g: u32,
-) -> bool
-    requires { ⌜ Concepts counts (now leaves) (now slots) (now deep) ⌝ }
-    requires { ⌜ Within counts statement ⌝ }
-    ensures { λ x. ⌜ ((B : Book) → ConceptsOf B counts (now (leaves .entry)) (now (slots .entry)) (now (deep .entry)) → x ≡ oneOfThree (p .one) (p .two) (p .three) (λ h. oneOfThree (p .one) (p .two) (p .three) (λ k. fitsBy B statement f g h k))) ⌝ }
-{
-    if third_fits(statement, counts, leaves, slots, deep, f, p, g, p.two) {
-        return true;
-    }
-    if third_fits(statement, counts, leaves, slots, deep, f, p, g, p.one) {
-        return true;
-    }
-    third_fits(statement, counts, leaves, slots, deep, f, p, g, p.three)
+    fits(
+        statement,
+        counts,
+        leaves,
+        slots,
+        deep,
+        f,
+        p.three,
+        p.three,
+        p.three,
+    )
 }
 
 // Whether f follows by the statement from the facts p.
@@ -84,17 +94,18 @@ pub fn order_fits(
     requires { ⌜ Within counts statement ⌝ }
     ensures { λ x. ⌜ ((B : Book) → ConceptsOf B counts (now (leaves .entry)) (now (slots .entry)) (now (deep .entry)) → x ≡ anyOrder (p .one) (p .two) (p .three) (fitsBy B statement f)) ⌝ }
 {
-    if second_fits(statement, counts, leaves, slots, deep, f, p, p.one) {
-        return true;
+    let n = counts.individuals as u32;
+    let chain = chain_of(counts, statement);
+    match chain {
+        Chain::Alone => alone_fits(statement, counts, leaves, slots, deep, f, p),
+        Chain::Pair(r, s, t) => pair_fits(n, r, s, t, f, p),
+        Chain::Triple(r, s, u, t) => triple_fits(n, r, s, u, t, f, p),
+        Chain::Fillers(r) => fillers_fit(n, r, f, p),
     }
-    if second_fits(statement, counts, leaves, slots, deep, f, p, p.two) {
-        return true;
-    }
-    second_fits(statement, counts, leaves, slots, deep, f, p, p.three)
 }
 
 // Whether two of n individuals are told to be the same.
-fn told_same(n: u32, labels: &[u32], i: u32, j: u32) -> bool
+pub fn told_same(n: u32, labels: &[u32], i: u32, j: u32) -> bool
     requires { ⌜ n ≤ length (now labels) ⌝ }
     ensures { λ x. ⌜ x ≡ toldSame n (now (labels .entry)) i j ⌝ }
 {
@@ -107,87 +118,79 @@ fn told_same(n: u32, labels: &[u32], i: u32, j: u32) -> bool
     labels[i as usize] == labels[j as usize]
 }
 
-// Whether rule 6 changes i to j: two of n individuals that are told to be the same, or whose joining is x.
-fn one_class(n: u32, labels: &[u32], i: u32, j: u32, x: u32) -> bool
-    requires { ⌜ (n ≤ length (now labels)) × (i < 512) × (j < 512) ⌝ }
-    ensures { λ r. ⌜ r ≡ oneClassBy n (now (labels .entry)) i j x ⌝ }
+// Whether x is the joining of i and j.
+fn joins(i: u32, j: u32, x: u32) -> bool
+    requires { ⌜ (i < 512) × (j < 512) ⌝ }
+    ensures { λ r. ⌜ r ≡ joinsBy i j x ⌝ }
 {
-    told_same(n, labels, i, j) | ((x == pair_of(i, j)) | (x == pair_of(j, i)))
+    (x == pair_of(i, j)) | (x == pair_of(j, i))
 }
 
-// Rule 6, for types: f from g, by the joining x.
-fn share_types(counts: Counts, labels: &[u32], f: u32, g: u32, x: u32) -> bool
+// Whether rule 6 changes i to j: two of n individuals that are told to be the same, or whose joining is among the facts p.
+fn one_class(n: u32, labels: &[u32], i: u32, j: u32, p: Premises) -> bool
+    requires { ⌜ (n ≤ length (now labels)) × (i < 512) × (j < 512) ⌝ }
+    ensures { λ r. ⌜ r ≡ oneOfThree (p .one) (p .two) (p .three) (oneClassBy n (now (labels .entry)) i j) ⌝ }
+{
+    if told_same(n, labels, i, j) {
+        return true;
+    }
+    joins(i, j, p.one) | (joins(i, j, p.two) | joins(i, j, p.three))
+}
+
+// Rule 6, for types: f from g, by a joining among the facts p.
+fn share_types(counts: Counts, labels: &[u32], f: u32, g: u32, p: Premises) -> bool
     requires { ⌜ Limits counts × (counts .individuals ≤ length (now labels)) ⌝ }
-    ensures { λ r. ⌜ ((B : Book) → LabelsOf B counts (now (labels .entry)) → r ≡ shareTypes counts B f g x) ⌝ }
+    ensures { λ r. ⌜ ((B : Book) → LabelsOf B counts (now (labels .entry)) → r ≡ oneOfThree (p .one) (p .two) (p .three) (shareTypes counts B f g)) ⌝ }
 {
     let n = counts.individuals as u32;
     let i = bearer(g);
     let j = bearer(f);
     let c = class_in(g);
-    (i < n)
-        & ((j < n)
-            & ((c < counts.classes as u32)
-                & ((g == type_of(i, c)) & ((f == type_of(j, c)) & one_class(n, labels, i, j, x)))))
+    let alike = (c < counts.classes as u32) & ((g == type_of(i, c)) & (f == type_of(j, c)));
+    if (i < n) & ((j < n) & alike) {
+        return one_class(n, labels, i, j, p);
+    }
+    false
 }
 
-// And for edges: the first end by the joining x, the second by y.
-fn share_edges(counts: Counts, labels: &[u32], f: u32, g: u32, x: u32, y: u32) -> bool
+// And for edges: each end by a joining of its own.
+fn share_edges(counts: Counts, labels: &[u32], f: u32, g: u32, p: Premises) -> bool
     requires { ⌜ Limits counts × (counts .individuals ≤ length (now labels)) ⌝ }
-    ensures { λ r. ⌜ ((B : Book) → LabelsOf B counts (now (labels .entry)) → r ≡ shareEdges counts B f g x y) ⌝ }
+    ensures { λ r. ⌜ ((B : Book) → LabelsOf B counts (now (labels .entry)) → r ≡ oneOfThree (p .one) (p .two) (p .three) (λ x. oneOfThree (p .one) (p .two) (p .three) (shareEdges counts B f g x))) ⌝ }
 {
     let n = counts.individuals as u32;
     let r = role_in(g);
     if r >= counts.roles as u32 {
         return false;
     }
-    let first = one_class(
-        n,
-        labels,
-        leads_from(Role::Named(0), g),
-        leads_from(Role::Named(0), f),
-        x,
-    );
-    let second = one_class(
-        n,
-        labels,
-        leads_to(Role::Named(0), g),
-        leads_to(Role::Named(0), f),
-        y,
-    );
-    is_edge(n, Role::Named(r), g) & (is_edge(n, Role::Named(r), f) & (first & second))
+    if is_edge(n, Role::Named(r), g) & is_edge(n, Role::Named(r), f) {
+        let first = one_class(
+            n,
+            labels,
+            leads_from(Role::Named(0), g),
+            leads_from(Role::Named(0), f),
+            p,
+        );
+        let second = one_class(
+            n,
+            labels,
+            leads_to(Role::Named(0), g),
+            leads_to(Role::Named(0), f),
+            p,
+        );
+        return first & second;
+    }
+    false
 }
 
-fn share_one(counts: Counts, labels: &[u32], f: u32, g: u32, x: u32, y: u32) -> bool
+fn share_from(counts: Counts, labels: &[u32], f: u32, p: Premises, g: u32) -> bool
     requires { ⌜ Limits counts × (counts .individuals ≤ length (now labels)) ⌝ }
-    ensures { λ r. ⌜ ((B : Book) → LabelsOf B counts (now (labels .entry)) → r ≡ sharesBy counts B f g x y) ⌝ }
+    ensures { λ r. ⌜ ((B : Book) → LabelsOf B counts (now (labels .entry)) → r ≡ oneOfThree (p .one) (p .two) (p .three) (λ x. oneOfThree (p .one) (p .two) (p .three) (sharesBy counts B f g x))) ⌝ }
 {
-    share_types(counts, labels, f, g, x) | share_edges(counts, labels, f, g, x, y)
-}
-
-fn share_third(counts: Counts, labels: &[u32], f: u32, p: Premises, g: u32, x: u32) -> bool
-    requires { ⌜ Limits counts × (counts .individuals ≤ length (now labels)) ⌝ }
-    ensures { λ r. ⌜ ((B : Book) → LabelsOf B counts (now (labels .entry)) → r ≡ oneOfThree (p .one) (p .two) (p .three) (λ y. sharesBy counts B f g x y)) ⌝ }
-{
-    if share_one(counts, labels, f, g, x, p.one) {
+    if share_types(counts, labels, f, g, p) {
         return true;
     }
-    if share_one(counts, labels, f, g, x, p.two) {
-        return true;
-    }
-    share_one(counts, labels, f, g, x, p.three)
-}
-
-fn share_second(counts: Counts, labels: &[u32], f: u32, p: Premises, g: u32) -> bool
-    requires { ⌜ Limits counts × (counts .individuals ≤ length (now labels)) ⌝ }
-    ensures { λ r. ⌜ ((B : Book) → LabelsOf B counts (now (labels .entry)) → r ≡ oneOfThree (p .one) (p .two) (p .three) (λ x. oneOfThree (p .one) (p .two) (p .three) (λ y. sharesBy counts B f g x y))) ⌝ }
-{
-    if share_third(counts, labels, f, p, g, p.one) {
-        return true;
-    }
-    if share_third(counts, labels, f, p, g, p.two) {
-        return true;
-    }
-    share_third(counts, labels, f, p, g, p.three)
+    share_edges(counts, labels, f, g, p)
 }
 
 // Whether f follows by rule 6 from the facts p: a type or an edge among them, and for each end the joining that changes it, or any other where it needs
@@ -196,13 +199,13 @@ pub fn share_fits(counts: Counts, labels: &[u32], f: u32, p: Premises) -> bool
     requires { ⌜ Limits counts × (counts .individuals ≤ length (now labels)) ⌝ }
     ensures { λ r. ⌜ ((B : Book) → LabelsOf B counts (now (labels .entry)) → r ≡ anyOrder (p .one) (p .two) (p .three) (sharesBy counts B f)) ⌝ }
 {
-    if share_second(counts, labels, f, p, p.one) {
+    if share_from(counts, labels, f, p, p.one) {
         return true;
     }
-    if share_second(counts, labels, f, p, p.two) {
+    if share_from(counts, labels, f, p, p.two) {
         return true;
     }
-    share_second(counts, labels, f, p, p.three)
+    share_from(counts, labels, f, p, p.three)
 }
 
 // Rule 8: two types of one individual whose classes clash.
@@ -238,52 +241,4 @@ pub fn clash_fits(counts: Counts, pairs: &[u64], p: Premises) -> bool
 {
     clash_with(counts, pairs, p, p.one)
         | (clash_with(counts, pairs, p, p.two) | clash_with(counts, pairs, p, p.three))
-}
-
-// Whether a statement denies the fact g, or what is known without it.
-fn deny_with(statement: Axiom, counts: Counts, labels: &[u32], g: u32) -> bool
-    requires { ⌜ Limits counts × (counts .individuals ≤ length (now labels)) × Within counts statement ⌝ }
-    ensures { λ x. ⌜ ((B : Book) → LabelsOf B counts (now (labels .entry)) → x ≡ denyFits B statement g) ⌝ }
-{
-    match statement {
-        Axiom::SubClassOf { sub: _, sup: _ } => false,
-        Axiom::EquivalentClasses(_, _) => false,
-        Axiom::DisjointClasses(_, _) => false,
-        Axiom::InverseObjectProperties(_, _) => false,
-        Axiom::SubObjectPropertyOf { sub: _, sup: _ } => false,
-        Axiom::TransitiveRole(_) => false,
-        Axiom::SymmetricRole(_) => false,
-        Axiom::FunctionalRole(_) => false,
-        Axiom::InverseFunctionalRole(_) => false,
-        Axiom::ObjectPropertyDomain { role: _, domain: _ } => false,
-        Axiom::ObjectPropertyRange { role: _, range: _ } => false,
-        Axiom::SameIndividual(_, _) => false,
-        Axiom::ClassAssertion {
-            class: _,
-            individual: _,
-        } => false,
-        Axiom::ObjectPropertyAssertion {
-            role: _,
-            subject: _,
-            object: _,
-        } => false,
-        Axiom::DifferentIndividuals(a, b) => {
-            one_class(counts.individuals as u32, labels, a, b, g)
-        }
-        Axiom::NegativeObjectPropertyAssertion {
-            role,
-            subject,
-            object,
-        } => g == edge_of(role, subject, object),
-    }
-}
-
-// Whether it denies one of the facts p.
-pub fn deny_fits(statement: Axiom, counts: Counts, labels: &[u32], p: Premises) -> bool
-    requires { ⌜ Limits counts × (counts .individuals ≤ length (now labels)) × Within counts statement ⌝ }
-    ensures { λ x. ⌜ ((B : Book) → LabelsOf B counts (now (labels .entry)) → x ≡ oneOfThree (p .one) (p .two) (p .three) (denyFits B statement)) ⌝ }
-{
-    deny_with(statement, counts, labels, p.one)
-        | (deny_with(statement, counts, labels, p.two)
-            | deny_with(statement, counts, labels, p.three))
 }

@@ -140,9 +140,11 @@ fn bring_fits(
     let left = leaves[c as usize];
     if is_atomic(left) {
         let a = bearer(g);
-        let told = told_fits(counts, leaves, slots, deep, d, a, f);
         let class = class_of(left) as u32;
-        return (a < counts.individuals as u32) & ((g == type_of(a, class)) & told);
+        if (a < counts.individuals as u32) & (g == type_of(a, class)) {
+            return told_fits(counts, leaves, slots, deep, d, a, f);
+        }
+        return false;
     }
     false
 }
@@ -198,7 +200,7 @@ fn path_fits(n: u32, path: SubRolePath, t: Role, f: u32, g: u32, h: u32, k: u32)
     }
 }
 
-fn flip(r: Role) -> Role
+pub fn flip(r: Role) -> Role
     ensures { λ x. ⌜ x ≡ flipped r ⌝ }
 {
     match r {

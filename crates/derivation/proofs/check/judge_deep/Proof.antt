@@ -10,21 +10,21 @@ cast-fill-slots c = search needs
 
 fill-slots-requires : tie.Need-fill-slots-requires
 fill-slots-requires c κs =
-    let p = c .before .before .before .before .before .before .before .before .before .before .before .pre in
-    (p .0 .leaves .room, open-limits (p .0 .opened) .concepts-top, p .1 .0 .0)
+    let p = c .before .before .before .before .before .before .before .before .before .before .before .before .pre in
+    (p .0 .leaves .room, open-limits (p .0 .opened) .concepts-top, p .1 .1 .0 .0)
 
 fill-deep-requires : tie.Need-fill-deep-requires
 fill-deep-requires c κs =
-    let p = c .before .before .before .before .before .before .before .before .before .before .before .before .before .before .before .before .pre in
+    let p = c .before .before .before .before .before .before .before .before .before .before .before .before .before .before .before .before .before .pre in
     let w = c .before .before .before .before .fill-slots .ensures in
-    (p .0 .opened, (p .0 .leaves, ((w .0, w .1, omega (arith, open-limits (p .0 .opened) .concepts-top, p .1 .0 .1)), deep-blank (p .1 .1))))
+    (p .0 .opened, (p .0 .leaves, ((w .0, w .1, omega (arith, open-limits (p .0 .opened) .concepts-top, p .1 .1 .0 .1)), deep-blank (p .1 .1 .1))))
 
 judge-requires : tie.Need-judge-requires
 judge-requires c κs =
-    let p = c .before .before .before .before .before .before .before .before .before .before .before .before .before .before .before .before .before .before .before .before .before .pre in
+    let p = c .before .before .before .before .before .before .before .before .before .before .before .before .before .before .before .before .before .before .before .before .before .before .pre in
     let w = c .before .before .before .before .before .before .before .before .before .fill-slots .ensures in
     let d = c .before .before .before .before .fill-deep .ensures in
-    ready-of (p .0) (w .1) (omega (arith, d .1, p .1 .0 .1)) (w .0) (d .0)
+    ready-of (p .0) (p .1 .0) (w .1) (omega (arith, d .1, p .1 .1 .0 .1)) (w .0) (d .0)
 
 same-length : tie.Need-same-length
 same-length c = search needs

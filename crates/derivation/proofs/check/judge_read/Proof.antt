@@ -45,8 +45,8 @@ pair-classes-requires c κs =
     let e = c .before .before .before .before .before .before .before .before .before .before .before .before .before .enter .ensures in
     (p .0, (p .1 .0, marked-of (p .0) (e .0) (e .1 .1) (e .1 .2) (e .1 .3) (p .1 .1 .1 .0 .2) (e .1 .4)))
 
-judge-stated-requires : tie.Need-judge-stated-requires
-judge-stated-requires c κs =
+judge-said-requires : tie.Need-judge-said-requires
+judge-said-requires c κs =
     let p = c .before .before .before .before .before .before .before .before .before .before .before .before .before .before .before .before .before .before .before .before .before .before .before .before .before .before .before .before .before .before .before .before .before .before .before .before .before .before .before .pre in
     let e = c .before .before .before .before .before .before .before .before .before .before .before .before .before .before .before .before .before .before .before .before .enter .ensures in
     let q = c .before .before .before .before .before .before .pair-classes .ensures in
@@ -78,7 +78,7 @@ judge-read-spec =
     slice-aggregate-pair-classes-2
     slice-aggregate-pair-classes-3
     pair-classes-requires
-    judge-stated-requires
+    judge-said-requires
     same-length
     same-length-2
     same-length-3

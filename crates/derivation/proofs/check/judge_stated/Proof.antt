@@ -14,7 +14,7 @@ slice-aggregate-judge-deep-2 : tie.Need-slice-aggregate-judge-deep-2
 slice-aggregate-judge-deep-2 c = search needs
 
 judge-deep-requires : tie.Need-judge-deep-requires
-judge-deep-requires c κs = (c .before .before .before .before .before .before .before .before .before .pre, ((length-replicate {0} {A = ℕ} 65793 0, enough 262144 262144 (omega arith)), blank 262144))
+judge-deep-requires c κs = let p = c .before .before .before .before .before .before .before .before .before .before .pre in (p .0, (p .1, ((length-replicate {0} {A = ℕ} 65793 0, enough 262144 262144 (omega arith)), blank 262144)))
 
 returns : tie.Need-returns
 returns c = search needs
