@@ -1,7 +1,9 @@
 pub mod Minus
 pub mod Listed
 pub mod Merging
+pub mod Still
 pub mod Further
 pub mod Answering
 pub mod Beginning
+pub mod Staying
 pub mod Prospects

@@ -2,7 +2,7 @@
 use Prim.Native.Nat.{ℕ, _+_, _*_, _<_, _≤_}
 use native.Mathlib.Omega.{arith}
 use mathlib.Core.Path.{_≡_, refl, ap, sym, _∙_, subst}
-use mathlib.Core.Bool.{Bool, true, false}
+use mathlib.Core.Bool.{Bool, true, false, _||_}
 use mathlib.Core.List.{List, [], _∷_, _++_}
 use lib.ListN.{length}
 use lib.Dec.{leb}
@@ -23,7 +23,9 @@ use Rattle.rules.specs.Spoken.{anyone, heedings}
 use Rattle.denial.specs.Denied.{deniedOf}
 use Rattle.rules.proofs.Inside.{Inside, accepted-inside}
 use Rattle.rules.proofs.Ended.{ends-finished}
-use Rattle.tables.specs.Open.{bookOf, bookWith, Open}
+use Rattle.tables.specs.Open.{bookOf, bookWith, sizeOf, Open}
+use Rattle.rounds.specs.View.{held}
+use Rattle.verdict.specs.Verdict.{clashIn}
 use Rattle.said.specs.Layout.{layoutOf, totalRows}
 use Rattle.verdict.specs.declared.end.End.{End as Answer}
 use Rattle.verdict.specs.declared.end.End.the-variants as answer
@@ -36,11 +38,11 @@ use Rattle.effect.proofs.Copied.{copied-is}
 use Rattle.whatif.specs.Minus.{Filled, lessened}
 use Rattle.whatif.specs.Further.{Ongoing}
 use Rattle.whatif.specs.Begun.{withRead, Finishes, Begun}
-use Rattle.whatif.specs.Answer.{gave, effectBy}
+use Rattle.whatif.specs.Answer.{gave, effectBy, stayed}
 use Rattle.whatif.specs.declared.answer.Step.{Step}
 use Rattle.whatif.specs.declared.answer.Step.the-variants.{Alone, Refused as refuse, Go}
 use Rattle.whatif.specs.declared.answer.Further.the-variants as further
-use Rattle.whatif.proofs.Answering.{on-finished, on-other, filled-by, finished-few, copy-run, copy-difference, present-finished}
+use Rattle.whatif.proofs.Answering.{on-finished, on-other, filled-by, finished-few, copy-run, copy-difference, still-difference, present-finished}
 
 module _ {s : List ℕ} {h : Counts} {offsets : List ℕ} (o : Open s h offsets) (read : Read Statement) {budget : ℕ} {ts es : List ℕ} (ps : List ℕ) (a : Admitted budget ts es) (us fs qs : List ℕ)
     (first : Answer) (ts' es' ps' : List ℕ) (ran : came first ts' es' ps' ≡ outcomeOn (heardBook anyone s) budget ts es ps) {step : Step} (begun : Begun (endOf first) (h .statements) budget read (length fs) (length us) step) where
@@ -101,6 +103,23 @@ module _ {s : List ℕ} {h : Counts} {offsets : List ℕ} (o : Open s h offsets)
 
     present : Filled first ts' es' ps' (types (bookOf s) (conclusions (bookOf s))) (edges (bookOf s) (conclusions (bookOf s))) (pairs (bookOf s) (conclusions (bookOf s)))
     present = filled-by ts es ps (bookOf s) (conclusions (bookOf s)) budget first ts' es' ps' O ran (present-finished o ps a go-finishes)
+
+    module _ (new : Within h (y .body)) (inside : Inside (larger (bookOf s) y)) where
+      -- what the copy came to by going on, moved or not
+      module _ {from : ℕ} {S L C K t S' K' t' : List ℕ} {used taken u : ℕ} {denies denied moved : Bool} (on : Ongoing s h from (heard anyone s) budget L S C K t used taken denies)
+          (now : Drawn h (bookWith s (heard anyone s ++ (y ∷ []))) budget S' L K' t' u denied) (still : moved ≡ false → (u ≡ used) × (held (sizeOf h) K' t' ≡ held (sizeOf h) K t)) where
+        pub answer-either : (rest : Answer) (us'' fs'' qs'' : List ℕ)
+            → (moved ≡ true → gave (record { present = first; copy = further.Ended rest }) ts' es' ps' us'' fs'' qs'' ≡ effectBy (outcomeOn (heardBook anyone s) budget ts es ps) (withRead (bookOf s) read) (conclusions (bookOf s)) budget us fs qs)
+            → (moved ≡ false → came rest us'' fs'' qs'' ≡ stayed (clashIn (layoutOf h) t' S' L || denied) (endOf first) us fs qs)
+            → gave (record { present = first; copy = further.Ended rest }) ts' es' ps' us'' fs'' qs'' ≡ effectBy (outcomeOn (heardBook anyone s) budget ts es ps) (withRead (bookOf s) read) (conclusions (bookOf s)) budget us fs qs
+        answer-either rest us'' fs'' qs'' went stays = go moved refl
+          where
+            go : (b : Bool) → moved ≡ b → gave (record { present = first; copy = further.Ended rest }) ts' es' ps' us'' fs'' qs'' ≡ effectBy (outcomeOn (heardBook anyone s) budget ts es ps) (withRead (bookOf s) read) (conclusions (bookOf s)) budget us fs qs
+            go true e = went e
+            go false e =
+                follows (came rest us'' fs'' qs'') (goes .0)
+                (ap (λ (d : Decoded). difference d (conclusions (bookOf s)) budget us fs qs) copy-is
+                ∙ sym (still-difference o y new inside qs go-admitted (on .drawn) (on .few) now (still e) first ts' es' ps' present rest us'' fs'' qs'' (stays e)))
 
     module _ (new : Within h (y .body)) (inside : Inside (larger (bookOf s) y)) (last : Answer) (us' fs' qs' : List ℕ)
         (again : came last us' fs' qs' ≡ outcomeOn (bookWith s (heard anyone s ++ (y ∷ []))) budget us fs qs) where

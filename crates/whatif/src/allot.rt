@@ -21,8 +21,10 @@ use super::answer::Prospect;
 use super::answer::Step;
 use super::answer::begin;
 use super::copy::Going;
-use super::copy::draw_on;
-use super::remove::remove;
+use super::copy::draw_further;
+use super::copy::draw_small;
+use super::stay::lessen;
+use super::stay::read_on;
 use book::header::Counts;
 use book::statement::ReadStatement;
 use heed::names::Names;
@@ -78,7 +80,6 @@ fn small(
     };
     let mut t = [0u64; 512];
     let mut says = [0u64; 1416];
-    let mut more = [0u64; 1416];
     let mut chains = [0u8; 260];
     let mut labels = [0u32; 16];
     let mut leaves = [0u32; 64];
@@ -131,29 +132,30 @@ fn small(
                 denies: drawing.denies,
                 statement,
             };
-            let again = draw_on(
+            let again = draw_small(
                 book,
                 offsets,
                 going,
                 &leaves,
                 &mut says,
-                &mut more,
                 &mut chains,
                 &mut labels,
                 &mut t,
             );
-            let last = read_off(
+            let last = read_on(
                 &t,
                 task,
                 &says,
                 &leaves,
                 &labels,
                 again,
+                end,
                 more_types,
                 more_edges,
                 more_pairs,
             );
-            let less = remove(
+            let less = lessen(
+                again.moved,
                 end,
                 last,
                 types,
@@ -209,7 +211,6 @@ fn large(
         names,
     };
     let mut says = [0u64; 75784];
-    let mut more = [0u64; 75784];
     let mut chains = [0u8; 16388];
     let mut labels = [0u32; 512];
     let mut leaves = [0u32; 4096];
@@ -262,29 +263,30 @@ fn large(
                 denies: drawing.denies,
                 statement,
             };
-            let again = draw_on(
+            let again = draw_further(
                 book,
                 offsets,
                 going,
                 &leaves,
                 &mut says,
-                &mut more,
                 &mut chains,
                 &mut labels,
                 t,
             );
-            let last = read_off(
+            let last = read_on(
                 t,
                 task,
                 &says,
                 &leaves,
                 &labels,
                 again,
+                end,
                 more_types,
                 more_edges,
                 more_pairs,
             );
-            let less = remove(
+            let less = lessen(
+                again.moved,
                 end,
                 last,
                 types,

@@ -4,5 +4,6 @@ pub mod answer;
 mod copy;
 mod record;
 mod remove;
+mod stay;
 mod subtract;
 pub mod what_if;

@@ -1,48 +1,45 @@
 use native.Mathlib.Omega.{arith}
+use Prim.Native.Nat.{ℕ, _*_, _≤_}
+use mathlib.Core.Path.{sym, subst}
+use lib.ListN.{length-replicate}
 use Rattle.tables.proofs.Blank.{blank}
-use Rattle.saturation.proofs.allot.Words.{table-within}
-use borrow.Author.Needs.{needs}
+use Rattle.saturation.specs.Run.{rowsOf}
 use Rattle.whatif.proofs.allot.rows_in_cache.Statement.{statement}
 use Rattle.whatif.proofs.allot.rows_in_cache.Tie as tie
 use Rattle.whatif.proofs.allot.rows_in_cache.Reads as reads
 use Rattle.whatif.proofs.allot.rows_in_cache.Lts as lts
 use Rattle.whatif.proofs.allot.large.Reads as large-reads
 
--- src/allot.rt:249:88
 slice-aggregate-large : tie.Need-slice-aggregate-large
-slice-aggregate-large c = search needs
+slice-aggregate-large c = sym {0} (length-replicate {0} {A = ℕ} 16384 0)
 
--- src/allot.rt:249:5
 large-requires : tie.Need-large-requires
-large-requires c κs = let s = c .before .before .before .before .before .before .before .before .before .before .before .before .before .before .before in let p = s .pre in (p .0, (p .1 .0, (p .1 .1 .0, (p .1 .1 .1 .0, (blank 16384, table-within (s .args .job .counts) 2048 16384 (p .1 .1 .1 .1) (omega arith))))))
+large-requires c κs =
+    let s = c .before .before .before .before .before .before .before .before .before .before .before .before .before .before .before in
+    let p = s .pre in
+    let rows = subst (λ (n : ℕ). rowsOf (s .args .job .counts) * 8 ≤ n) (sym {0} (length-replicate {0} {A = ℕ} 16384 0)) (omega (arith, p .1 .1 .1 .1)) in
+    (p .0, (p .1 .0, (p .1 .1 .0, (p .1 .1 .1 .0, (λ i. blank 16384 i, rows)))))
 
--- src/allot.rt:230:1
 same-length : tie.Need-same-length
-same-length c = search needs
+same-length c = c .before .before .before .before .before .before .before .before .before .before .before .before .types .given
 
--- src/allot.rt:230:1
 same-length-2 : tie.Need-same-length-2
-same-length-2 c = search needs
+same-length-2 c = c .before .before .before .before .before .before .before .before .before .before .edges .given
 
--- src/allot.rt:230:1
 same-length-3 : tie.Need-same-length-3
-same-length-3 c = search needs
+same-length-3 c = c .before .before .before .before .before .before .before .before .pairs .given
 
--- src/allot.rt:230:1
 same-length-4 : tie.Need-same-length-4
-same-length-4 c = search needs
+same-length-4 c = c .before .before .before .before .before .before .more-types .given
 
--- src/allot.rt:230:1
 same-length-5 : tie.Need-same-length-5
-same-length-5 c = search needs
+same-length-5 c = c .before .before .before .before .more-edges .given
 
--- src/allot.rt:230:1
 same-length-6 : tie.Need-same-length-6
-same-length-6 c = search needs
+same-length-6 c = c .before .before .more-pairs .given
 
--- src/allot.rt:230:1
 returns : tie.Need-returns
-returns c = search needs
+returns c = c .before .before .before .before .before .before .before .before .before .before .before .before .before .large .ensures
 
 pub rows-in-cache-spec : {M : Type 1} → statement M
 rows-in-cache-spec =

@@ -5,47 +5,36 @@ use Rattle.whatif.proofs.answer.begin.Tie as tie
 use Rattle.whatif.proofs.answer.begin.Reads as reads
 use Rattle.whatif.proofs.answer.begin.Lts as lts
 
--- src/answer.rt:41:23
 enum-known-present : tie.Need-enum-known-present
 enum-known-present c = search needs
 
--- src/answer.rt:42:9
 returns : tie.Need-returns
 returns c = search begin-ways
 
--- src/answer.rt:44:16
 mul-if1 : tie.Need-mul-if1
 mul-if1 c = search needs
 
--- src/answer.rt:45:9
 returns-2 : tie.Need-returns-2
 returns-2 c = search begin-ways
 
--- src/answer.rt:47:16
 mul-if2 : tie.Need-mul-if2
 mul-if2 c = search needs
 
--- src/answer.rt:48:9
 returns-3 : tie.Need-returns-3
 returns-3 c = search begin-ways
 
--- src/answer.rt:51:9
 returns-4 : tie.Need-returns-4
 returns-4 c = search begin-ways
 
--- src/answer.rt:54:32
 enum-known-read : tie.Need-enum-known-read
 enum-known-read c = search needs
 
--- src/answer.rt:55:29
 enum-known-read-2 : tie.Need-enum-known-read-2
 enum-known-read-2 c = search needs
 
--- src/answer.rt:30:1
 returns-5 : tie.Need-returns-5
 returns-5 c = search begin-ways
 
--- src/answer.rt:30:1
 returns-6 : tie.Need-returns-6
 returns-6 c = search begin-ways
 

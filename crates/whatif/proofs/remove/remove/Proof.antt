@@ -11,41 +11,32 @@ use Rattle.whatif.proofs.remove.remove.Reads as reads
 use Rattle.whatif.proofs.remove.remove.Lts as lts
 use Rattle.whatif.proofs.subtract.subtract.Reads as subtract-reads
 
--- src/remove.rt:27:23
 enum-known-first : tie.Need-enum-known-first
 enum-known-first c = search needs
 
--- src/remove.rt:28:9
 returns : tie.Need-returns
 returns c =
     (λ n. refl, λ T E P U F Q a b. absurd (not-finished (c .before .before .before .before .before .before .before .args .first) (c .match .keys2) _ _ _ (ap endOf (a .end))))
 
--- src/remove.rt:30:23
 enum-known-second : tie.Need-enum-known-second
 enum-known-second c = search needs
 
--- src/remove.rt:31:9
 returns-2 : tie.Need-returns-2
 returns-2 c =
     (λ n. refl, λ T E P U F Q a b. absurd (not-finished (c .before .before .before .before .before .before .before .before .before .before .args .second) (c .match2 .keys2) _ _ _ (ap endOf (b .end))))
 
--- src/remove.rt:33:39
 cast-subtract : tie.Need-cast-subtract
 cast-subtract c = search needs
 
--- src/remove.rt:33:34
 mul-subtract : tie.Need-mul-subtract
 mul-subtract c = search needs
 
--- src/remove.rt:33:64
 cast-subtract-2 : tie.Need-cast-subtract-2
 cast-subtract-2 c = search needs
 
--- src/remove.rt:33:59
 mul-subtract-2 : tie.Need-mul-subtract-2
 mul-subtract-2 c = search needs
 
--- src/remove.rt:33:9
 subtract-requires : tie.Need-subtract-requires
 subtract-requires c κs =
     let f = c .before .before .before .before .before .first .given in
@@ -53,23 +44,18 @@ subtract-requires c κs =
     let q = c .before .before .before .before .before .before .before .before .before .before .before .before .before .pre _ _ _ _ _ _ (f .1) (g .1) in
     (omega arith, ((rows2 (q .1 .0), types-stand (q .1 .3) (g .1)), (rows2 (q .0 .0), types-stand (q .0 .3) (f .1))))
 
--- src/remove.rt:34:39
 cast-subtract-3 : tie.Need-cast-subtract-3
 cast-subtract-3 c = search needs
 
--- src/remove.rt:34:34
 mul-subtract-3 : tie.Need-mul-subtract-3
 mul-subtract-3 c = search needs
 
--- src/remove.rt:34:64
 cast-subtract-4 : tie.Need-cast-subtract-4
 cast-subtract-4 c = search needs
 
--- src/remove.rt:34:59
 mul-subtract-4 : tie.Need-mul-subtract-4
 mul-subtract-4 c = search needs
 
--- src/remove.rt:34:9
 subtract-requires-2 : tie.Need-subtract-requires-2
 subtract-requires-2 c κs =
     let f = c .before .before .before .before .before .before .before .before .before .first .given in
@@ -77,23 +63,18 @@ subtract-requires-2 c κs =
     let q = c .before .before .before .before .before .before .before .before .before .before .before .before .before .before .before .before .before .pre _ _ _ _ _ _ (f .1) (g .1) in
     (omega arith, ((rows3 (q .1 .1), edges-stand (q .1 .3) (g .1)), (rows3 (q .0 .1), edges-stand (q .0 .3) (f .1))))
 
--- src/remove.rt:35:39
 cast-subtract-5 : tie.Need-cast-subtract-5
 cast-subtract-5 c = search needs
 
--- src/remove.rt:35:34
 mul-subtract-5 : tie.Need-mul-subtract-5
 mul-subtract-5 c = search needs
 
--- src/remove.rt:35:64
 cast-subtract-6 : tie.Need-cast-subtract-6
 cast-subtract-6 c = search needs
 
--- src/remove.rt:35:59
 mul-subtract-6 : tie.Need-mul-subtract-6
 mul-subtract-6 c = search needs
 
--- src/remove.rt:35:9
 subtract-requires-3 : tie.Need-subtract-requires-3
 subtract-requires-3 c κs =
     let f = c .before .before .before .before .before .before .before .before .before .before .before .before .before .first .given in
@@ -101,31 +82,24 @@ subtract-requires-3 c κs =
     let q = c .before .before .before .before .before .before .before .before .before .before .before .before .before .before .before .before .before .before .before .before .before .pre _ _ _ _ _ _ (f .1) (g .1) in
     (omega arith, ((rows2 (q .1 .2), pairs-stand (q .1 .3) (g .1)), (rows2 (q .0 .2), pairs-stand (q .0 .3) (f .1))))
 
--- src/remove.rt:36:19
 cast-t28 : tie.Need-cast-t28
 cast-t28 c = search needs
 
--- src/remove.rt:36:35
 cast-t29 : tie.Need-cast-t29
 cast-t29 c = search needs
 
--- src/remove.rt:36:51
 cast-t30 : tie.Need-cast-t30
 cast-t30 c = search needs
 
--- src/remove.rt:13:1
 same-length : tie.Need-same-length
 same-length c = search needs
 
--- src/remove.rt:13:1
 same-length-2 : tie.Need-same-length-2
 same-length-2 c = search needs
 
--- src/remove.rt:13:1
 same-length-3 : tie.Need-same-length-3
 same-length-3 c = search needs
 
--- src/remove.rt:13:1
 returns-3 : tie.Need-returns-3
 returns-3 c =
     let f = c .before .before .before .before .before .before .before .before .before .before .before .before .before .before .before .before .first .given .1 in

@@ -8,37 +8,29 @@ use Rattle.whatif.proofs.subtract.pass_row.Lts as lts
 use Rattle.whatif.proofs.subtract.move_row.Reads as move-row-reads
 use Rattle.whatif.proofs.subtract.stands.Reads as stands-reads
 
--- src/subtract.rt:66:8
 stands-requires : tie.Need-stands-requires
 stands-requires c κs = search needs
 
--- src/subtract.rt:68:20
 add-t12 : tie.Need-add-t12
 add-t12 c = search needs
 
--- src/subtract.rt:67:9
 same-length : tie.Need-same-length
 same-length c = search needs
 
--- src/subtract.rt:67:9
 returns : tie.Need-returns
 returns c =
     let e = c .before .stands .ensures .0 (c .if1 .taken) in
     inl (record { low = e .0; same = e .1; stays = refl; next = refl; here = refl })
 
--- src/subtract.rt:72:5
 move-row-requires : tie.Need-move-row-requires
 move-row-requires c κs = search needs
 
--- src/subtract.rt:75:15
 add-t16 : tie.Need-add-t16
 add-t16 c = search needs
 
--- src/subtract.rt:52:1
 same-length-2 : tie.Need-same-length-2
 same-length-2 c = search needs
 
--- src/subtract.rt:52:1
 returns-2 : tie.Need-returns-2
 returns-2 c = inr (record { new = c .before .before .before .before .before .stands .ensures .1 (c .before .before .before .before .if1 .left); moved = c .before .before .move-row .ensures; next = refl; here = refl })
 

@@ -7,11 +7,9 @@ use Rattle.whatif.proofs.subtract.stands.Reads as reads
 use Rattle.whatif.proofs.subtract.stands.Lts as lts
 use Rattle.whatif.proofs.subtract.same_row.Reads as same-row-reads
 
--- src/subtract.rt:36:9
 returns : tie.Need-returns
 returns c = (λ e. false-true e, λ e l. absurd (omega (arith, c .if1 .taken)))
 
--- src/subtract.rt:38:5
 same-row-requires : tie.Need-same-row-requires
 same-row-requires c κs =
     let p = c .before .before .before .pre in
@@ -19,7 +17,6 @@ same-row-requires c κs =
     let q = p .2 l in
     (p .0, omega (arith, q, p .1))
 
--- src/subtract.rt:31:1
 returns-2 : tie.Need-returns-2
 returns-2 c = (λ e. (omega (arith, c .before .if1 .left), c .same-row .ensures .0 e), λ e l. c .same-row .ensures .1 e)
 

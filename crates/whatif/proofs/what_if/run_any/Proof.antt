@@ -7,39 +7,30 @@ use Rattle.whatif.proofs.what_if.run_any.Reads as reads
 use Rattle.whatif.proofs.what_if.run_any.Lts as lts
 use Rattle.whatif.proofs.what_if.run_checked.Reads as run-checked-reads
 
--- src/what_if.rt:77:29
 slice-aggregate-run-checked : tie.Need-slice-aggregate-run-checked
 slice-aggregate-run-checked c = search needs
 
--- src/what_if.rt:77:5
 run-checked-requires : tie.Need-run-checked-requires
 run-checked-requires c κs = (λ B d. within 4096 _ (accepted-limits _ B d .concepts-top), c .before .before .before .before .before .before .before .before .before .before .before .before .before .before .before .pre)
 
--- src/what_if.rt:62:1
 same-length : tie.Need-same-length
 same-length c = search needs
 
--- src/what_if.rt:62:1
 same-length-2 : tie.Need-same-length-2
 same-length-2 c = search needs
 
--- src/what_if.rt:62:1
 same-length-3 : tie.Need-same-length-3
 same-length-3 c = search needs
 
--- src/what_if.rt:62:1
 same-length-4 : tie.Need-same-length-4
 same-length-4 c = search needs
 
--- src/what_if.rt:62:1
 same-length-5 : tie.Need-same-length-5
 same-length-5 c = search needs
 
--- src/what_if.rt:62:1
 same-length-6 : tie.Need-same-length-6
 same-length-6 c = search needs
 
--- src/what_if.rt:62:1
 returns : tie.Need-returns
 returns c = search needs
 

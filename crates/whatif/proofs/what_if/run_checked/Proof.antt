@@ -17,27 +17,21 @@ use Rattle.whatif.proofs.allot.allot.Reads as allot-reads
 use Rattle.whatif.proofs.record.record_at.Reads as record-at-reads
 use Rattle.whatif.proofs.what_if.refused.Reads as refused-reads
 
--- src/what_if.rt:46:9
 check-book-requires : tie.Need-check-book-requires
 check-book-requires c κs = search needs
 
--- src/what_if.rt:48:26
 enum-known-check : tie.Need-enum-known-check
 enum-known-check c = search needs
 
--- src/what_if.rt:48:32
 refused-requires : tie.Need-refused-requires
 refused-requires c κs = search needs
 
--- src/what_if.rt:49:27
 enum-known-check-2 : tie.Need-enum-known-check-2
 enum-known-check-2 c = search needs
 
--- src/what_if.rt:54:23
 record-at-requires : tie.Need-record-at-requires
 record-at-requires c κs = search needs
 
--- src/what_if.rt:56:13
 allot-requires : tie.Need-allot-requires
 allot-requires c κs =
     let p = c .before .before .before .before .before .before .before .before .before .before .before .before .before .before .before .before .before .before .before .before .before .before .before .before .pre in
@@ -47,11 +41,9 @@ allot-requires c κs =
     let r = c .before .before .before .before .before .before .before .record-at .ensures in
     (o, (checked-rest k e, (p .1, λ y next q. (record-within _ _ y next (sym r ∙ q), λ l. record-inside _ o y next (sym r ∙ q) l))))
 
--- src/what_if.rt:30:1
 same-length : tie.Need-same-length
 same-length c = search needs
 
--- src/what_if.rt:30:1
 returns : tie.Need-returns
 returns c =
     let s = c .before .before .before .before .before .before .before .before .before .before .before .before .before .before .before .before .before in
@@ -59,35 +51,27 @@ returns c =
     let p = s .pre in
     rw (c .refused .ensures) (alone-effect (a .book .now) (a .line .now) (a .budget) (a .types .now) (a .edges .now) (a .pairs .now) (a .more-types .now) (a .more-edges .now) (a .more-pairs .now) _ (refused-book _ _ _ (decode (a .book .now)) _ (p .1 .low) (p .1 .edges) (p .1 .types) _ (checked-refused _ _ _ (c .before .before .before .before .before .before .check-book .ensures) _ (c .before .before .check .given .1))))
 
--- src/what_if.rt:30:1
 same-length-2 : tie.Need-same-length-2
 same-length-2 c = search needs
 
--- src/what_if.rt:30:1
 same-length-3 : tie.Need-same-length-3
 same-length-3 c = search needs
 
--- src/what_if.rt:30:1
 same-length-4 : tie.Need-same-length-4
 same-length-4 c = search needs
 
--- src/what_if.rt:30:1
 same-length-5 : tie.Need-same-length-5
 same-length-5 c = search needs
 
--- src/what_if.rt:30:1
 same-length-6 : tie.Need-same-length-6
 same-length-6 c = search needs
 
--- src/what_if.rt:30:1
 same-length-7 : tie.Need-same-length-7
 same-length-7 c = search needs
 
--- src/what_if.rt:30:1
 same-length-8 : tie.Need-same-length-8
 same-length-8 c = search needs
 
--- src/what_if.rt:30:1
 returns-2 : tie.Need-returns-2
 returns-2 c =
     let a = c .before .before .before .before .before .before .before .before .before .before .before .before .before .before .before .before .before .before .before .before .before .before .before .before .before .before .before .before .before .before .before .before .before .before .before .before .before .args in
