@@ -209,7 +209,7 @@ fn rows_of_any(
 
 // The sizes are passed from the smallest on, each by a call of this function: one that calls itself is not merged with what it calls, so each size keeps a
 // frame of its own, and a small book does not walk over the largest.
-pub fn allot(
+pub(crate) fn allot(
     book: &[u8],
     offsets: &[usize],
     task: Task,

@@ -102,7 +102,7 @@ fn finished(shown: bool, types: u32, edges: u32, pairs: u32) -> Answer
 }
 
 // The answer of a run that left the links t and the rows `says`, and ended so.
-pub fn give_answer(
+pub(crate) fn give_answer(
     book: &[u8],
     offsets: &[usize],
     counts: Counts,

@@ -41,7 +41,7 @@ module _ {h : Counts} {S T : Set} {C D : ℕ → ℕ → Bool} (agree : Agree h 
   n = h .individuals
 
   mutual
-    pub shown-agree : (e : Concept) → ConceptIn h e → (i : ℕ) → i < n → shown n S C e i ≡ shown n T D e i
+    shown-agree : (e : Concept) → ConceptIn h e → (i : ℕ) → i < n → shown n S C e i ≡ shown n T D e i
     shown-agree Top w i l = refl
     shown-agree Bot w i l = refl
     shown-agree (Atomic c) w i l = agree .types i c l w
@@ -107,7 +107,7 @@ module _ (h : Counts) (limits : Limits h) (K t g : List ℕ) (labelled : Labelle
       let few = limits .individuals-top in
       row-labels i b k l ∙ sym (set-pair (edgeIn z t) (typeIn z t) (alike (h .individuals) kind) i b (omega arith) ∙ rw (lt-ltb i (h .individuals) k, lt-ltb b (h .individuals) l) refl)
 
-  pub agree-held : Agree h (factsIn h t) (held z K t) (classIn (h .individuals) g) (λ i b. held z K t (pair i b))
+  agree-held : Agree h (factsIn h t) (held z K t) (classIn (h .individuals) g) (λ i b. held z K t (pair i b))
   agree-held = record { types = type-held; edges = edge-held; classes = class-held }
 
 -- SO where `held` is the conclusions of a book, what is shown by table and rows is what is shown in the book

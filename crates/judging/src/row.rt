@@ -4,7 +4,7 @@ ghost use lib.ListN.{length};
 ghost use Rattle.judging.specs.Row.{Met, Copied, Filled};
 
 // Leaves in the row acc what is in row k of t too.
-pub fn meet(acc: &mut [u64], t: &[u64], k: usize)
+pub(crate) fn meet(acc: &mut [u64], t: &[u64], k: usize)
     requires { ⌜ (8 ≤ length (now acc)) × (k * 8 + 8 ≤ length (now t)) ⌝ }
     ensures { λ _. ⌜ Met (now (acc .entry)) (now (t .entry)) k (now (acc .exit)) ⌝ }
 {
@@ -14,7 +14,7 @@ pub fn meet(acc: &mut [u64], t: &[u64], k: usize)
 }
 
 // Makes row k of t the row acc.
-pub fn copy(t: &mut [u64], k: usize, acc: &[u64])
+pub(crate) fn copy(t: &mut [u64], k: usize, acc: &[u64])
     requires { ⌜ (8 ≤ length (now acc)) × (k * 8 + 8 ≤ length (now t)) ⌝ }
     ensures { λ _. ⌜ Copied (now (t .entry)) k (now (acc .entry)) (now (t .exit)) ⌝ }
 {
@@ -24,7 +24,7 @@ pub fn copy(t: &mut [u64], k: usize, acc: &[u64])
 }
 
 // Puts every number into the row acc.
-pub fn fill(acc: &mut [u64])
+pub(crate) fn fill(acc: &mut [u64])
     requires { ⌜ 8 ≤ length (now acc) ⌝ }
     ensures { λ _. ⌜ Filled (now (acc .entry)) (now (acc .exit)) ⌝ }
 {

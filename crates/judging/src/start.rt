@@ -68,7 +68,7 @@ fn fellows(acc: &mut [u64], g: &[u64], b: usize, n: usize)
 }
 
 // Makes the empty row acc what a record starts from.
-pub fn begin(counts: Counts, t: &[u64], groups: &[u64], expr: ConceptExpr, acc: &mut [u64])
+pub(crate) fn begin(counts: Counts, t: &[u64], groups: &[u64], expr: ConceptExpr, acc: &mut [u64])
     requires { ⌜ Laid counts (now t) (now groups) ⌝ }
     requires { ⌜ StartIn counts expr ⌝ }
     requires { ⌜ Empty (now acc) ⌝ }
@@ -98,7 +98,7 @@ pub fn begin(counts: Counts, t: &[u64], groups: &[u64], expr: ConceptExpr, acc: 
 }
 
 // Mixes row p of the concepts' rows into the row acc.
-pub fn give(counts: Counts, t: &[u64], way: Way, rows: &[u64], p: usize, acc: &mut [u64])
+pub(crate) fn give(counts: Counts, t: &[u64], way: Way, rows: &[u64], p: usize, acc: &mut [u64])
     requires { ⌜ Table (sizeOf counts) (now t) ⌝ }
     requires { ⌜ RoleIn counts way ⌝ }
     requires { ⌜ (8 ≤ length (now acc)) × (p * 8 + 8 ≤ length (now rows)) ⌝ }

@@ -22,7 +22,7 @@ pub struct Left {
     pub next: u32,
 }
 
-pub fn way_of(expr: ConceptExpr) -> Way
+pub(crate) fn way_of(expr: ConceptExpr) -> Way
     ensures { λ r. ⌜ r ≡ wayOf expr ⌝ }
 {
     match expr {
@@ -42,7 +42,7 @@ pub fn way_of(expr: ConceptExpr) -> Way
 }
 
 // How many parts there are to judge.
-pub fn count_of(way: Way) -> u32
+pub(crate) fn count_of(way: Way) -> u32
     ensures { λ r. ⌜ r ≡ countOf way ⌝ }
 {
     match way {

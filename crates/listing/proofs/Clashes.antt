@@ -26,7 +26,7 @@ use Rattle.rules.specs.Applied.{In}
 use Rattle.rules.proofs.Tests.{false-true, and-intro, or-cases, or-left}
 use Rattle.tables.specs.Open.{bookOf, sizeOf, Open}
 use Rattle.tables.proofs.Open.{open-limits, open-within}
-use Rattle.saturation.proofs.Sides.{PairLow, disjoint-low}
+use Rattle.tables.proofs.Sides.{PairLow, disjoint-low}
 use Rattle.rounds.specs.View.{fact as factOf}
 use Rattle.rounds.proofs.View.{fact-types}
 use Rattle.derivation.specs.declared.row.Row.{Row}

@@ -1,8 +1,6 @@
 -- Why a run's end and lists are the defined ones.
 pub mod Tabled
-pub mod Members
 pub mod Breaks
-pub mod Sides
 pub mod Values
 pub mod Statements
 pub mod Ranges

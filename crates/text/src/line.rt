@@ -20,7 +20,7 @@ fn put_numbers(out: &mut [u8], at: usize, list: &[u32]) -> usize
     here
 }
 
-// Puts a line into out from a place on; the place behind it.
+// Puts a line into out from a place on; the place behind it, from which on out is as it was.
 pub fn put_line(out: &mut [u8], at: usize, word: &[u8], list: &[u32]) -> usize
     requires { ⌜ at + (length (now word) + (11 * length (now list) + 1)) ≤ length (now out) ⌝ }
     ensures { λ r. ⌜ Written (now (out .entry)) at (line (now (word .entry)) (now (list .entry))) (now (out .exit)) r ⌝ }

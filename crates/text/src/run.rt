@@ -1,7 +1,7 @@
 // A run: its end, and what it listed.
 ghost use mathlib.Core.Path.{_≡_};
 ghost use Prim.Native.Nat.{_+_, _*_, _≤_};
-ghost use lib.ListN.{length, take};
+ghost use lib.ListN.{length, take, drop};
 ghost use Rattle.verdict.specs.Listing.{Written};
 ghost use Rattle.verdict.specs.Conclude.{endOf, came};
 ghost use Rattle.text.specs.Text.{endLine, typeEntries, typePart, typeLines, edgeLines, pairLines, printed};
@@ -83,7 +83,7 @@ fn put_pairs<'a>(out: &mut [u8], at: usize, end: End, edges: &'a [u32], pairs: &
     )
 }
 
-// Puts the whole text of a run, from its end and the lists as it left them; how many bytes.
+// Puts the whole text of a run, from its end and the lists as it left them; how many bytes. What stands behind it stays.
 pub fn put_run<'a>(
     end: End,
     types: &[u32],
@@ -94,6 +94,7 @@ pub fn put_run<'a>(
     requires { ⌜ 64 + 13 * (length (now types) + (length (now edges) + length (now pairs))) ≤ length (now out) ⌝ }
     ensures { λ r. ⌜ (r ≤ length (now (out .exit))) × (r ≡ length (take r (now (out .exit)))) ⌝ }
     ensures { λ r. ⌜ take r (now (out .exit)) ≡ printed (came end (now (types .entry)) (now (edges .entry)) (now (pairs .entry))) ⌝ }
+    ensures { λ r. ⌜ drop r (now (out .exit)) ≡ drop r (now (out .entry)) ⌝ }
 {
     let first = put_end(out, 0, end);
     let second = put_types(out, first, end, types);

@@ -3,7 +3,7 @@ use Prim.Native.Nat.{ℕ, _+_, _-_, _*_, _/_, _<_, _≤_}
 use mathlib.Core.Path.{_≡_}
 use mathlib.Core.Bool.{_&&_}
 use mathlib.Core.List.{List, _++_}
-use lib.ListN.{length, getD, take, replicate}
+use lib.ListN.{length, getD, take, drop, replicate}
 use lib.Dec.{ltb}
 use Rattle.rows.specs.Row.{has}
 use Rattle.rows.specs.declared.table.Size.{Size}
@@ -37,8 +37,9 @@ edgesOf z t r = gather (z .individuals) λ a. edgesFrom z t r a
 unfoldable pub allEdges : Size → List ℕ → List Three
 allEdges z t = gather (z .fields / 2 - 1) λ r. edgesOf z t r
 
--- m is l with the entries es written from `at` on; what stands behind them is left open
+-- m is l with the entries es written from `at` on
 pub record Written (l : List ℕ) (at : ℕ) (es : List ℕ) (m : List ℕ) (end : ℕ) : Type 0 where
   pub len : length m ≡ length l
   pub behind : end ≡ at + length es
   pub front : take end m ≡ take at l ++ es
+  pub rest : drop end m ≡ drop end l

@@ -39,7 +39,7 @@ fn count_behind(t: &[u64], k: usize, first: usize, n: usize, count: usize) -> us
 }
 
 // How many pairs of n individuals have one label, by the rows of the labels.
-pub fn count_pairs(groups: &[u64], labels: &[u32], n: usize) -> usize
+pub(crate) fn count_pairs(groups: &[u64], labels: &[u32], n: usize) -> usize
     requires { ⌜ Labelled n (now labels) × (n * 8 ≤ length (now groups)) × (n ≤ 512) ⌝ }
     ensures { λ r. ⌜ r ≡ length (pairsOf (now (labels .entry)) (now (groups .entry)) n) ⌝ }
 {
@@ -145,7 +145,7 @@ fn list_edges_of(list: &mut [u32], at: usize, role: usize, t: &[u64], size: Size
     i
 }
 
-pub fn list_edges(list: &mut [u32], t: &[u64], size: Size)
+pub(crate) fn list_edges(list: &mut [u32], t: &[u64], size: Size)
     requires { ⌜ Table size (now t) ⌝ }
     requires { ⌜ 3 * length (allEdges size (now t)) ≤ length (now list) ⌝ }
     ensures { λ _. ⌜ now (list .exit) ≡ filled (entries3 (allEdges size (now (t .entry)))) (length (now (list .entry))) ⌝ }
@@ -175,7 +175,7 @@ fn list_behind(list: &mut [u32], at: usize, first: usize, t: &[u64], k: usize, n
 }
 
 // Lists the pairs of n individuals that have one label.
-pub fn list_pairs(list: &mut [u32], groups: &[u64], labels: &[u32], n: usize)
+pub(crate) fn list_pairs(list: &mut [u32], groups: &[u64], labels: &[u32], n: usize)
     requires { ⌜ Labelled n (now labels) × (n * 8 ≤ length (now groups)) × (n ≤ 512) ⌝ }
     requires { ⌜ 2 * length (pairsOf (now labels) (now groups) n) ≤ length (now list) ⌝ }
     ensures { λ _. ⌜ now (list .exit) ≡ filled (entries2 (pairsOf (now (labels .entry)) (now (groups .entry)) n)) (length (now (list .entry))) ⌝ }

@@ -3,7 +3,7 @@ use Prim.Native.Nat.{ℕ, _+_, _*_, _≤_}
 use native.Mathlib.Omega.{arith}
 use mathlib.Core.Path.{_≡_, ap, _∙_}
 use mathlib.Core.List.{List}
-use lib.ListN.{length, take, length-take}
+use lib.ListN.{length, take, drop, length-take}
 use Rattle.verdict.specs.declared.end.End.{End as Answer}
 use Rattle.verdict.specs.Listing.{Written}
 use Rattle.verdict.specs.Conclude.{endOf, came}
@@ -19,6 +19,10 @@ pub run-printed : (r : Answer) (ts es ps : List ℕ) {o l m n q : List ℕ} {a b
     → Written n c (pairLines (endOf r) ps) q d → take d q ≡ printed (came r ts es ps)
 unfolding printed
 run-printed r ts es ps w x y z = written-then (written-then (written-then w x) y) z .front
+
+-- and behind them all is as it was
+pub run-rest : {es fs gs hs o l m n q : List ℕ} {a b c d : ℕ} → Written o 0 es l a → Written l a fs m b → Written m b gs n c → Written n c hs q d → drop d q ≡ drop d o
+run-rest w x y z = written-then (written-then (written-then w x) y) z .rest
 
 -- the lines of a front, under the name of the list
 pub front-lines : (word : List ℕ) (w n : ℕ) (l : List ℕ) {part o m : List ℕ} {at end : ℕ} → part ≡ take n l → Written o at (lines word w part) m end × (end ≤ at + 13 * length part)

@@ -4,25 +4,32 @@ use native.Mathlib.Numerals.{add-one}
 use native.Mathlib.Omega.{arith}
 use mathlib.Core.Path.{_≡_, refl, ap, sym, _∙_, subst}
 use mathlib.Core.List.{List, [], _∷_, _++_, append-nil, append-assoc}
-use lib.ListN.{length, take, set, replicate, length-append, length-set, replicate-append-replicate}
-use lib.Seq.{take-suc-set, take-length}
+use lib.ListN.{length, take, drop, set, replicate, length-append, length-set, replicate-append-replicate}
+use lib.Seq.{take-suc-set, take-length, drop-set-lt, drop-drop}
 use Rattle.rules.specs.Fact.{Two}
 use Rattle.rules.specs.Lists.{entries2, filled}
 use Rattle.rules.proofs.Ended.{length-entries2}
 use Rattle.verdict.specs.Listing.{Written}
 
+-- lists that are equal from k on are equal from any later place on
+drop-later : (k n : ℕ) (l m : List ℕ) → k ≤ n → drop k m ≡ drop k l → drop n m ≡ drop n l
+drop-later k n l m h e =
+    let d : n ≡ k + (n - k) = omega arith in
+    ap (λ (j : ℕ). drop j m) d ∙ (sym (drop-drop (n - k) k m) ∙ (ap (drop (n - k)) e ∙ (drop-drop (n - k) k l ∙ ap (λ (j : ℕ). drop j l) (sym d))))
+
 -- nothing, one entry, one list of entries after another, and the same under another name
 pub written-none : {l : List ℕ} {at : ℕ} → Written l at [] l at
-written-none {l} {at} = record { len = refl; behind = omega arith; front = sym (append-nil (take at l)) }
+written-none {l} {at} = record { len = refl; behind = omega arith; front = sym (append-nil (take at l)); rest = refl }
 
 pub written-one : (l : List ℕ) (i v : ℕ) → i < length l → Written l i (v ∷ []) (set l i v) (i + 1)
-written-one l i v h = record { len = length-set l i v; behind = omega arith; front = rw add-one (take-suc-set l i v h) }
+written-one l i v h = record { len = length-set l i v; behind = omega arith; front = rw add-one (take-suc-set l i v h); rest = drop-set-lt (i + 1) l i v (omega arith) }
 
 pub written-then : {l m o es fs : List ℕ} {at k end : ℕ} → Written l at es m k → Written m k fs o end → Written l at (es ++ fs) o end
-written-then {l} {m} {o} {es} {fs} {at} w v = record {
+written-then {l} {m} {o} {es} {fs} {at} {k} {end} w v = record {
   len = v .len ∙ w .len;
   behind = omega (arith, w .behind, v .behind, length-append es fs);
   front = v .front ∙ ap (λ (x : List ℕ). x ++ fs) (w .front) ∙ append-assoc (take at l) es fs;
+  rest = v .rest ∙ drop-later k end l m (omega (arith, v .behind)) (w .rest);
 }
 
 pub written-as : {l m es fs : List ℕ} {at end : ℕ} → es ≡ fs → Written l at es m end → Written l at fs m end

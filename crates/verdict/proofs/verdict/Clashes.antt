@@ -27,7 +27,7 @@ module _ (n m : ℕ) (dis : List ℕ) (own : Bool) where
       any-same m _ _ (λ d l. ap (λ (b : Bool). has dis c d && (counting own c d && b)) (any-same n _ _ (λ i k. rw (p i k, q d i l k))))
 
   -- of all rows
-  pub rows-clash-same : {M N : ℕ → ℕ → Bool} → ((d i : ℕ) → d < m → i < n → M d i ≡ N d i) → rowsClash n m dis own M ≡ rowsClash n m dis own N
+  rows-clash-same : {M N : ℕ → ℕ → Bool} → ((d i : ℕ) → d < m → i < n → M d i ≡ N d i) → rowsClash n m dis own M ≡ rowsClash n m dis own N
   unfolding rowsClash
   rows-clash-same {M} {N} q = any-same m _ _ (λ c l. row-clash-same (M c) (N c) M N (λ i k. q c i l k) q c)
 

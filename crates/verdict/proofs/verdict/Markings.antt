@@ -30,7 +30,7 @@ pub rows-none : {u : List ℕ} {f : ℕ → ℕ → Bool} → ((d i : ℕ) → f
 rows-none {u} {f} h = record { len = refl; rows = λ d i l m. rw (h d i) (or-none (has u d i)) }
 
 -- first those of f, then those of g
-pub rows-then : {u v w : List ℕ} {f g k : ℕ → ℕ → Bool} → RowsWith u f v → RowsWith v g w → ((d i : ℕ) → (f d i || g d i) ≡ k d i) → RowsWith u k w
+rows-then : {u v w : List ℕ} {f g k : ℕ → ℕ → Bool} → RowsWith u f v → RowsWith v g w → ((d i : ℕ) → (f d i || g d i) ≡ k d i) → RowsWith u k w
 rows-then {u} {v} {w} {f} {g} {k} p q h = record {
   len = q .len ∙ p .len;
   rows = λ d i l m. q .rows d i l m ∙ rw (p .rows d i l m) (assoc (has u d i) (f d i) (g d i) ∙ ap (λ (b : Bool). has u d i || b) (h d i));
@@ -41,7 +41,7 @@ rows-then {u} {v} {w} {f} {g} {k} p q h = record {
     assoc false b c = refl
 
 -- the same by another test
-pub rows-as : {u v : List ℕ} {f g : ℕ → ℕ → Bool} → RowsWith u f v → ((d i : ℕ) → i < 512 → f d i ≡ g d i) → RowsWith u g v
+rows-as : {u v : List ℕ} {f g : ℕ → ℕ → Bool} → RowsWith u f v → ((d i : ℕ) → i < 512 → f d i ≡ g d i) → RowsWith u g v
 rows-as {u} {v} {f} {g} p h = record { len = p .len; rows = λ d i l m. p .rows d i l m ∙ ap (λ (b : Bool). has u d i || b) (h d i m) }
 
 -- ---- the marker of a leaf

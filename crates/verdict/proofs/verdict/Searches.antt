@@ -20,7 +20,7 @@ any-same zero f g h = refl
 any-same (suc n) f g h = rw (h n (omega arith), any-same n f g (λ i l. h i (omega arith)))
 
 -- a test that nothing from p on below q passes
-pub any-skip : (f : ℕ → Bool) (p q : ℕ) → p ≤ q → ((i : ℕ) → p ≤ i → i < q → f i ≡ false) → any q f ≡ any p f
+any-skip : (f : ℕ → Bool) (p q : ℕ) → p ≤ q → ((i : ℕ) → p ≤ i → i < q → f i ≡ false) → any q f ≡ any p f
 any-skip f p zero l h = let e : p ≡ 0 = omega arith in rw e
 any-skip f p (suc q) l h = go (decLe p q) (λ m. any-skip f p q m (λ i a b. h i a (omega arith)))
   where

@@ -8,7 +8,7 @@ use Rattle.listing.proofs.deny.deny_pair.Statement.{statement}
 use Rattle.listing.proofs.deny.deny_pair.Tie as tie
 use Rattle.listing.proofs.deny.deny_pair.Reads as reads
 use Rattle.listing.proofs.deny.deny_pair.Lts as lts
-use Rattle.listing.proofs.deny.pair_place.Reads as pair-place-reads
+use Rattle.drawing.proofs.share.pair_place.Reads as pair-place-reads
 use Rattle.rows.proofs.row.member.Reads as member-reads
 use Rattle.steps.proofs.mark.class_row.Reads as class-row-reads
 use Rattle.tables.proofs.size.size_of.Reads as size-of-reads

@@ -26,440 +26,9 @@ allot-at t = and 6 allot-kinds.ps (is 6 allot-kinds.ps μ-allot t) allot.Pre
 abbrev allot-below : ℕ → In 6 allot-kinds.ps
 allot-below t = and 6 allot-kinds.ps (falls 6 allot-kinds.ps _<_ μ-allot t) allot.Pre
 
-allot-wanted-requires : (t : ℕ) → allot-lts.Need-wanted-requires (
-  wanted-reads.Asked,
-  wanted-reads.Learnt,
-  allot-below t,
-  allot.Post,
-  small-reads.Asked,
-  small-reads.Learnt,
-  rows-in-cache-reads.Asked,
-  rows-in-cache-reads.Learnt,
-  rows-of-some-reads.Asked,
-  rows-of-some-reads.Learnt,
-  rows-of-any-reads.Asked,
-  rows-of-any-reads.Learnt,
-) (allot-at t) allot.Post
-allot-wanted-requires t c κs = open-sized (c .before .before .before .before .before .before .pre .1 .0)
-
-allot-add-allot : (t : ℕ) → allot-lts.Need-add-allot (
-  wanted-reads.Asked,
-  wanted-reads.Learnt,
-  allot-below t,
-  allot.Post,
-  small-reads.Asked,
-  small-reads.Learnt,
-  rows-in-cache-reads.Asked,
-  rows-in-cache-reads.Learnt,
-  rows-of-some-reads.Asked,
-  rows-of-some-reads.Learnt,
-  rows-of-any-reads.Asked,
-  rows-of-any-reads.Learnt,
-) (allot-at t) allot.Post
-allot-add-allot t c = let w = c .before .before .before .before .wanted .ensures .last in omega arith
-
-allot-allot-requires : (t : ℕ) → allot-lts.Need-allot-requires (
-  wanted-reads.Asked,
-  wanted-reads.Learnt,
-  allot-below t,
-  allot.Post,
-  small-reads.Asked,
-  small-reads.Learnt,
-  rows-in-cache-reads.Asked,
-  rows-in-cache-reads.Learnt,
-  rows-of-some-reads.Asked,
-  rows-of-some-reads.Learnt,
-  rows-of-any-reads.Asked,
-  rows-of-any-reads.Learnt,
-) (allot-at t) allot.Post
-allot-allot-requires t c κs = let m = c .before .before .before .before .before .before .before .before .before .before .before .pre .0 in let w = c .before .before .before .before .wanted .ensures .last in (omega arith, c .before .before .before .before .before .before .before .before .before .before .before .pre .1)
-
-allot-same-length : (t : ℕ) → allot-lts.Need-same-length (
-  wanted-reads.Asked,
-  wanted-reads.Learnt,
-  allot-below t,
-  allot.Post,
-  small-reads.Asked,
-  small-reads.Learnt,
-  rows-in-cache-reads.Asked,
-  rows-in-cache-reads.Learnt,
-  rows-of-some-reads.Asked,
-  rows-of-some-reads.Learnt,
-  rows-of-any-reads.Asked,
-  rows-of-any-reads.Learnt,
-) (allot-at t) allot.Post
-allot-same-length t c = search needs
-
-allot-same-length-2 : (t : ℕ) → allot-lts.Need-same-length-2 (
-  wanted-reads.Asked,
-  wanted-reads.Learnt,
-  allot-below t,
-  allot.Post,
-  small-reads.Asked,
-  small-reads.Learnt,
-  rows-in-cache-reads.Asked,
-  rows-in-cache-reads.Learnt,
-  rows-of-some-reads.Asked,
-  rows-of-some-reads.Learnt,
-  rows-of-any-reads.Asked,
-  rows-of-any-reads.Learnt,
-) (allot-at t) allot.Post
-allot-same-length-2 t c = search needs
-
-allot-same-length-3 : (t : ℕ) → allot-lts.Need-same-length-3 (
-  wanted-reads.Asked,
-  wanted-reads.Learnt,
-  allot-below t,
-  allot.Post,
-  small-reads.Asked,
-  small-reads.Learnt,
-  rows-in-cache-reads.Asked,
-  rows-in-cache-reads.Learnt,
-  rows-of-some-reads.Asked,
-  rows-of-some-reads.Learnt,
-  rows-of-any-reads.Asked,
-  rows-of-any-reads.Learnt,
-) (allot-at t) allot.Post
-allot-same-length-3 t c = search needs
-
-allot-returns : (t : ℕ) → allot-lts.Need-returns (
-  wanted-reads.Asked,
-  wanted-reads.Learnt,
-  allot-below t,
-  allot.Post,
-  small-reads.Asked,
-  small-reads.Learnt,
-  rows-in-cache-reads.Asked,
-  rows-in-cache-reads.Learnt,
-  rows-of-some-reads.Asked,
-  rows-of-some-reads.Learnt,
-  rows-of-any-reads.Asked,
-  rows-of-any-reads.Learnt,
-) (allot-at t) allot.Post
-allot-returns t c = search needs
-
-allot-small-requires : (t : ℕ) → allot-lts.Need-small-requires (
-  wanted-reads.Asked,
-  wanted-reads.Learnt,
-  allot-below t,
-  allot.Post,
-  small-reads.Asked,
-  small-reads.Learnt,
-  rows-in-cache-reads.Asked,
-  rows-in-cache-reads.Learnt,
-  rows-of-some-reads.Asked,
-  rows-of-some-reads.Learnt,
-  rows-of-any-reads.Asked,
-  rows-of-any-reads.Learnt,
-) (allot-at t) allot.Post
-allot-small-requires t c κs = let p = c .before .before .before .before .before .before .before .before .before .before .before .before .pre .1 in let w = c .before .before .before .before .before .wanted .ensures in let e = c .before .before .before .if2 .taken in (p .0, (p .1 .0, (p .1 .1 .0, (p .1 .1 .1, (w .small e, w .tiny e)))))
-
-allot-same-length-4 : (t : ℕ) → allot-lts.Need-same-length-4 (
-  wanted-reads.Asked,
-  wanted-reads.Learnt,
-  allot-below t,
-  allot.Post,
-  small-reads.Asked,
-  small-reads.Learnt,
-  rows-in-cache-reads.Asked,
-  rows-in-cache-reads.Learnt,
-  rows-of-some-reads.Asked,
-  rows-of-some-reads.Learnt,
-  rows-of-any-reads.Asked,
-  rows-of-any-reads.Learnt,
-) (allot-at t) allot.Post
-allot-same-length-4 t c = search needs
-
-allot-same-length-5 : (t : ℕ) → allot-lts.Need-same-length-5 (
-  wanted-reads.Asked,
-  wanted-reads.Learnt,
-  allot-below t,
-  allot.Post,
-  small-reads.Asked,
-  small-reads.Learnt,
-  rows-in-cache-reads.Asked,
-  rows-in-cache-reads.Learnt,
-  rows-of-some-reads.Asked,
-  rows-of-some-reads.Learnt,
-  rows-of-any-reads.Asked,
-  rows-of-any-reads.Learnt,
-) (allot-at t) allot.Post
-allot-same-length-5 t c = search needs
-
-allot-same-length-6 : (t : ℕ) → allot-lts.Need-same-length-6 (
-  wanted-reads.Asked,
-  wanted-reads.Learnt,
-  allot-below t,
-  allot.Post,
-  small-reads.Asked,
-  small-reads.Learnt,
-  rows-in-cache-reads.Asked,
-  rows-in-cache-reads.Learnt,
-  rows-of-some-reads.Asked,
-  rows-of-some-reads.Learnt,
-  rows-of-any-reads.Asked,
-  rows-of-any-reads.Learnt,
-) (allot-at t) allot.Post
-allot-same-length-6 t c = search needs
-
-allot-returns-2 : (t : ℕ) → allot-lts.Need-returns-2 (
-  wanted-reads.Asked,
-  wanted-reads.Learnt,
-  allot-below t,
-  allot.Post,
-  small-reads.Asked,
-  small-reads.Learnt,
-  rows-in-cache-reads.Asked,
-  rows-in-cache-reads.Learnt,
-  rows-of-some-reads.Asked,
-  rows-of-some-reads.Learnt,
-  rows-of-any-reads.Asked,
-  rows-of-any-reads.Learnt,
-) (allot-at t) allot.Post
-allot-returns-2 t c = search needs
-
-allot-rows-in-cache-requires : (t : ℕ) → allot-lts.Need-rows-in-cache-requires (
-  wanted-reads.Asked,
-  wanted-reads.Learnt,
-  allot-below t,
-  allot.Post,
-  small-reads.Asked,
-  small-reads.Learnt,
-  rows-in-cache-reads.Asked,
-  rows-in-cache-reads.Learnt,
-  rows-of-some-reads.Asked,
-  rows-of-some-reads.Learnt,
-  rows-of-any-reads.Asked,
-  rows-of-any-reads.Learnt,
-) (allot-at t) allot.Post
-allot-rows-in-cache-requires t c κs = let p = c .before .before .before .before .before .before .before .before .before .before .before .before .before .pre .1 in (p .0, (p .1 .0, (p .1 .1 .0, (p .1 .1 .1, c .before .before .before .before .before .before .wanted .ensures .cache (c .before .before .before .if3 .taken)))))
-
-allot-same-length-7 : (t : ℕ) → allot-lts.Need-same-length-7 (
-  wanted-reads.Asked,
-  wanted-reads.Learnt,
-  allot-below t,
-  allot.Post,
-  small-reads.Asked,
-  small-reads.Learnt,
-  rows-in-cache-reads.Asked,
-  rows-in-cache-reads.Learnt,
-  rows-of-some-reads.Asked,
-  rows-of-some-reads.Learnt,
-  rows-of-any-reads.Asked,
-  rows-of-any-reads.Learnt,
-) (allot-at t) allot.Post
-allot-same-length-7 t c = search needs
-
-allot-same-length-8 : (t : ℕ) → allot-lts.Need-same-length-8 (
-  wanted-reads.Asked,
-  wanted-reads.Learnt,
-  allot-below t,
-  allot.Post,
-  small-reads.Asked,
-  small-reads.Learnt,
-  rows-in-cache-reads.Asked,
-  rows-in-cache-reads.Learnt,
-  rows-of-some-reads.Asked,
-  rows-of-some-reads.Learnt,
-  rows-of-any-reads.Asked,
-  rows-of-any-reads.Learnt,
-) (allot-at t) allot.Post
-allot-same-length-8 t c = search needs
-
-allot-same-length-9 : (t : ℕ) → allot-lts.Need-same-length-9 (
-  wanted-reads.Asked,
-  wanted-reads.Learnt,
-  allot-below t,
-  allot.Post,
-  small-reads.Asked,
-  small-reads.Learnt,
-  rows-in-cache-reads.Asked,
-  rows-in-cache-reads.Learnt,
-  rows-of-some-reads.Asked,
-  rows-of-some-reads.Learnt,
-  rows-of-any-reads.Asked,
-  rows-of-any-reads.Learnt,
-) (allot-at t) allot.Post
-allot-same-length-9 t c = search needs
-
-allot-returns-3 : (t : ℕ) → allot-lts.Need-returns-3 (
-  wanted-reads.Asked,
-  wanted-reads.Learnt,
-  allot-below t,
-  allot.Post,
-  small-reads.Asked,
-  small-reads.Learnt,
-  rows-in-cache-reads.Asked,
-  rows-in-cache-reads.Learnt,
-  rows-of-some-reads.Asked,
-  rows-of-some-reads.Learnt,
-  rows-of-any-reads.Asked,
-  rows-of-any-reads.Learnt,
-) (allot-at t) allot.Post
-allot-returns-3 t c = search needs
-
-allot-rows-of-some-requires : (t : ℕ) → allot-lts.Need-rows-of-some-requires (
-  wanted-reads.Asked,
-  wanted-reads.Learnt,
-  allot-below t,
-  allot.Post,
-  small-reads.Asked,
-  small-reads.Learnt,
-  rows-in-cache-reads.Asked,
-  rows-in-cache-reads.Learnt,
-  rows-of-some-reads.Asked,
-  rows-of-some-reads.Learnt,
-  rows-of-any-reads.Asked,
-  rows-of-any-reads.Learnt,
-) (allot-at t) allot.Post
-allot-rows-of-some-requires t c κs = let p = c .before .before .before .before .before .before .before .before .before .before .before .before .before .before .pre .1 in (p .0, (p .1 .0, (p .1 .1 .0, (p .1 .1 .1, c .before .before .before .before .before .before .before .wanted .ensures .some (c .before .before .before .if4 .taken)))))
-
-allot-same-length-10 : (t : ℕ) → allot-lts.Need-same-length-10 (
-  wanted-reads.Asked,
-  wanted-reads.Learnt,
-  allot-below t,
-  allot.Post,
-  small-reads.Asked,
-  small-reads.Learnt,
-  rows-in-cache-reads.Asked,
-  rows-in-cache-reads.Learnt,
-  rows-of-some-reads.Asked,
-  rows-of-some-reads.Learnt,
-  rows-of-any-reads.Asked,
-  rows-of-any-reads.Learnt,
-) (allot-at t) allot.Post
-allot-same-length-10 t c = search needs
-
-allot-same-length-11 : (t : ℕ) → allot-lts.Need-same-length-11 (
-  wanted-reads.Asked,
-  wanted-reads.Learnt,
-  allot-below t,
-  allot.Post,
-  small-reads.Asked,
-  small-reads.Learnt,
-  rows-in-cache-reads.Asked,
-  rows-in-cache-reads.Learnt,
-  rows-of-some-reads.Asked,
-  rows-of-some-reads.Learnt,
-  rows-of-any-reads.Asked,
-  rows-of-any-reads.Learnt,
-) (allot-at t) allot.Post
-allot-same-length-11 t c = search needs
-
-allot-same-length-12 : (t : ℕ) → allot-lts.Need-same-length-12 (
-  wanted-reads.Asked,
-  wanted-reads.Learnt,
-  allot-below t,
-  allot.Post,
-  small-reads.Asked,
-  small-reads.Learnt,
-  rows-in-cache-reads.Asked,
-  rows-in-cache-reads.Learnt,
-  rows-of-some-reads.Asked,
-  rows-of-some-reads.Learnt,
-  rows-of-any-reads.Asked,
-  rows-of-any-reads.Learnt,
-) (allot-at t) allot.Post
-allot-same-length-12 t c = search needs
-
-allot-returns-4 : (t : ℕ) → allot-lts.Need-returns-4 (
-  wanted-reads.Asked,
-  wanted-reads.Learnt,
-  allot-below t,
-  allot.Post,
-  small-reads.Asked,
-  small-reads.Learnt,
-  rows-in-cache-reads.Asked,
-  rows-in-cache-reads.Learnt,
-  rows-of-some-reads.Asked,
-  rows-of-some-reads.Learnt,
-  rows-of-any-reads.Asked,
-  rows-of-any-reads.Learnt,
-) (allot-at t) allot.Post
-allot-returns-4 t c = search needs
-
-allot-rows-of-any-requires : (t : ℕ) → allot-lts.Need-rows-of-any-requires (
-  wanted-reads.Asked,
-  wanted-reads.Learnt,
-  allot-below t,
-  allot.Post,
-  small-reads.Asked,
-  small-reads.Learnt,
-  rows-in-cache-reads.Asked,
-  rows-in-cache-reads.Learnt,
-  rows-of-some-reads.Asked,
-  rows-of-some-reads.Learnt,
-  rows-of-any-reads.Asked,
-  rows-of-any-reads.Learnt,
-) (allot-at t) allot.Post
-allot-rows-of-any-requires t c κs = let p = c .before .before .before .before .before .before .before .before .before .before .before .before .before .before .pre .1 in (p .0, (p .1 .0, (p .1 .1 .0, (p .1 .1 .1, most-rows _ (open-limits (p .0))))))
-
-allot-same-length-13 : (t : ℕ) → allot-lts.Need-same-length-13 (
-  wanted-reads.Asked,
-  wanted-reads.Learnt,
-  allot-below t,
-  allot.Post,
-  small-reads.Asked,
-  small-reads.Learnt,
-  rows-in-cache-reads.Asked,
-  rows-in-cache-reads.Learnt,
-  rows-of-some-reads.Asked,
-  rows-of-some-reads.Learnt,
-  rows-of-any-reads.Asked,
-  rows-of-any-reads.Learnt,
-) (allot-at t) allot.Post
-allot-same-length-13 t c = search needs
-
-allot-same-length-14 : (t : ℕ) → allot-lts.Need-same-length-14 (
-  wanted-reads.Asked,
-  wanted-reads.Learnt,
-  allot-below t,
-  allot.Post,
-  small-reads.Asked,
-  small-reads.Learnt,
-  rows-in-cache-reads.Asked,
-  rows-in-cache-reads.Learnt,
-  rows-of-some-reads.Asked,
-  rows-of-some-reads.Learnt,
-  rows-of-any-reads.Asked,
-  rows-of-any-reads.Learnt,
-) (allot-at t) allot.Post
-allot-same-length-14 t c = search needs
-
-allot-same-length-15 : (t : ℕ) → allot-lts.Need-same-length-15 (
-  wanted-reads.Asked,
-  wanted-reads.Learnt,
-  allot-below t,
-  allot.Post,
-  small-reads.Asked,
-  small-reads.Learnt,
-  rows-in-cache-reads.Asked,
-  rows-in-cache-reads.Learnt,
-  rows-of-some-reads.Asked,
-  rows-of-some-reads.Learnt,
-  rows-of-any-reads.Asked,
-  rows-of-any-reads.Learnt,
-) (allot-at t) allot.Post
-allot-same-length-15 t c = search needs
-
-allot-returns-5 : (t : ℕ) → allot-lts.Need-returns-5 (
-  wanted-reads.Asked,
-  wanted-reads.Learnt,
-  allot-below t,
-  allot.Post,
-  small-reads.Asked,
-  small-reads.Learnt,
-  rows-in-cache-reads.Asked,
-  rows-in-cache-reads.Learnt,
-  rows-of-some-reads.Asked,
-  rows-of-some-reads.Learnt,
-  rows-of-any-reads.Asked,
-  rows-of-any-reads.Learnt,
-) (allot-at t) allot.Post
-allot-returns-5 t c = search needs
-
-pub +allot-spec : {M : Type 1} → statement M
-+allot-spec = close μ-allot λ t. allot-lts.spec (
+-- what each callee asks and tells
+abbrev claims : ℕ → allot-lts.Claims
+claims t = (
   wanted-reads.Asked,
   wanted-reads.Learnt,
   allot-below t,
@@ -473,6 +42,90 @@ pub +allot-spec : {M : Type 1} → statement M
   rows-of-any-reads.Asked,
   rows-of-any-reads.Learnt,
 )
+
+allot-wanted-requires : (t : ℕ) → allot-lts.Need-wanted-requires (claims t) (allot-at t) allot.Post
+allot-wanted-requires t c κs = open-sized (c .before .before .before .before .before .before .pre .1 .0)
+
+allot-add-allot : (t : ℕ) → allot-lts.Need-add-allot (claims t) (allot-at t) allot.Post
+allot-add-allot t c = let w = c .before .before .before .before .wanted .ensures .last in omega arith
+
+allot-allot-requires : (t : ℕ) → allot-lts.Need-allot-requires (claims t) (allot-at t) allot.Post
+allot-allot-requires t c κs = let m = c .before .before .before .before .before .before .before .before .before .before .before .pre .0 in let w = c .before .before .before .before .wanted .ensures .last in (omega arith, c .before .before .before .before .before .before .before .before .before .before .before .pre .1)
+
+allot-same-length : (t : ℕ) → allot-lts.Need-same-length (claims t) (allot-at t) allot.Post
+allot-same-length t c = search needs
+
+allot-same-length-2 : (t : ℕ) → allot-lts.Need-same-length-2 (claims t) (allot-at t) allot.Post
+allot-same-length-2 t c = search needs
+
+allot-same-length-3 : (t : ℕ) → allot-lts.Need-same-length-3 (claims t) (allot-at t) allot.Post
+allot-same-length-3 t c = search needs
+
+allot-returns : (t : ℕ) → allot-lts.Need-returns (claims t) (allot-at t) allot.Post
+allot-returns t c = search needs
+
+allot-small-requires : (t : ℕ) → allot-lts.Need-small-requires (claims t) (allot-at t) allot.Post
+allot-small-requires t c κs = let p = c .before .before .before .before .before .before .before .before .before .before .before .before .pre .1 in let w = c .before .before .before .before .before .wanted .ensures in let e = c .before .before .before .if2 .taken in (p .0, (p .1 .0, (p .1 .1 .0, (p .1 .1 .1, (w .small e, w .tiny e)))))
+
+allot-same-length-4 : (t : ℕ) → allot-lts.Need-same-length-4 (claims t) (allot-at t) allot.Post
+allot-same-length-4 t c = search needs
+
+allot-same-length-5 : (t : ℕ) → allot-lts.Need-same-length-5 (claims t) (allot-at t) allot.Post
+allot-same-length-5 t c = search needs
+
+allot-same-length-6 : (t : ℕ) → allot-lts.Need-same-length-6 (claims t) (allot-at t) allot.Post
+allot-same-length-6 t c = search needs
+
+allot-returns-2 : (t : ℕ) → allot-lts.Need-returns-2 (claims t) (allot-at t) allot.Post
+allot-returns-2 t c = search needs
+
+allot-rows-in-cache-requires : (t : ℕ) → allot-lts.Need-rows-in-cache-requires (claims t) (allot-at t) allot.Post
+allot-rows-in-cache-requires t c κs = let p = c .before .before .before .before .before .before .before .before .before .before .before .before .before .pre .1 in (p .0, (p .1 .0, (p .1 .1 .0, (p .1 .1 .1, c .before .before .before .before .before .before .wanted .ensures .cache (c .before .before .before .if3 .taken)))))
+
+allot-same-length-7 : (t : ℕ) → allot-lts.Need-same-length-7 (claims t) (allot-at t) allot.Post
+allot-same-length-7 t c = search needs
+
+allot-same-length-8 : (t : ℕ) → allot-lts.Need-same-length-8 (claims t) (allot-at t) allot.Post
+allot-same-length-8 t c = search needs
+
+allot-same-length-9 : (t : ℕ) → allot-lts.Need-same-length-9 (claims t) (allot-at t) allot.Post
+allot-same-length-9 t c = search needs
+
+allot-returns-3 : (t : ℕ) → allot-lts.Need-returns-3 (claims t) (allot-at t) allot.Post
+allot-returns-3 t c = search needs
+
+allot-rows-of-some-requires : (t : ℕ) → allot-lts.Need-rows-of-some-requires (claims t) (allot-at t) allot.Post
+allot-rows-of-some-requires t c κs = let p = c .before .before .before .before .before .before .before .before .before .before .before .before .before .before .pre .1 in (p .0, (p .1 .0, (p .1 .1 .0, (p .1 .1 .1, c .before .before .before .before .before .before .before .wanted .ensures .some (c .before .before .before .if4 .taken)))))
+
+allot-same-length-10 : (t : ℕ) → allot-lts.Need-same-length-10 (claims t) (allot-at t) allot.Post
+allot-same-length-10 t c = search needs
+
+allot-same-length-11 : (t : ℕ) → allot-lts.Need-same-length-11 (claims t) (allot-at t) allot.Post
+allot-same-length-11 t c = search needs
+
+allot-same-length-12 : (t : ℕ) → allot-lts.Need-same-length-12 (claims t) (allot-at t) allot.Post
+allot-same-length-12 t c = search needs
+
+allot-returns-4 : (t : ℕ) → allot-lts.Need-returns-4 (claims t) (allot-at t) allot.Post
+allot-returns-4 t c = search needs
+
+allot-rows-of-any-requires : (t : ℕ) → allot-lts.Need-rows-of-any-requires (claims t) (allot-at t) allot.Post
+allot-rows-of-any-requires t c κs = let p = c .before .before .before .before .before .before .before .before .before .before .before .before .before .before .pre .1 in (p .0, (p .1 .0, (p .1 .1 .0, (p .1 .1 .1, most-rows _ (open-limits (p .0))))))
+
+allot-same-length-13 : (t : ℕ) → allot-lts.Need-same-length-13 (claims t) (allot-at t) allot.Post
+allot-same-length-13 t c = search needs
+
+allot-same-length-14 : (t : ℕ) → allot-lts.Need-same-length-14 (claims t) (allot-at t) allot.Post
+allot-same-length-14 t c = search needs
+
+allot-same-length-15 : (t : ℕ) → allot-lts.Need-same-length-15 (claims t) (allot-at t) allot.Post
+allot-same-length-15 t c = search needs
+
+allot-returns-5 : (t : ℕ) → allot-lts.Need-returns-5 (claims t) (allot-at t) allot.Post
+allot-returns-5 t c = search needs
+
+pub +allot-spec : {M : Type 1} → statement M
++allot-spec = close μ-allot λ t. allot-lts.spec (claims t)
     (allot-at t)
     allot.Post
     (allot-wanted-requires t)

@@ -5,26 +5,32 @@ use Rattle.saturation.proofs.allot.rows_of_some.Reads as reads
 use Rattle.saturation.proofs.allot.rows_of_some.Lts as lts
 use Rattle.saturation.proofs.allot.large.Reads as large-reads
 use native.Mathlib.Omega.{arith}
+use Prim.Native.Nat.{ℕ, _*_, _≤_}
+use mathlib.Core.Path.{sym, subst}
+use lib.ListN.{length-replicate}
 use Rattle.tables.proofs.Blank.{blank}
-use Rattle.saturation.proofs.allot.Words.{table-within}
+use Rattle.saturation.specs.Run.{rowsOf}
 
 slice-aggregate-large : tie.Need-slice-aggregate-large
-slice-aggregate-large c = search needs
+slice-aggregate-large c = sym {0} (length-replicate {0} {A = ℕ} 131072 0)
 
 large-requires : tie.Need-large-requires
-large-requires c κs = let p = c .before .before .before .before .before .before .before .before .before .before .pre in (p .0, (p .1 .0, (p .1 .1 .0, (p .1 .1 .1 .0, (blank 131072, table-within (c .before .before .before .before .before .before .before .before .before .before .args .task .counts) 16384 131072 (p .1 .1 .1 .1) (omega arith))))))
+large-requires c κs =
+    let s = c .before .before .before .before .before .before .before .before .before .before in
+    let p = s .pre in
+    (p .0, (p .1 .0, (p .1 .1 .0, (p .1 .1 .1 .0, (λ i. blank 131072 i, subst (λ (n : ℕ). rowsOf (s .args .task .counts) * 8 ≤ n) (sym {0} (length-replicate {0} {A = ℕ} 131072 0)) (omega (arith, p .1 .1 .1 .1)))))))
 
 same-length : tie.Need-same-length
-same-length c = search needs
+same-length c = c .before .before .before .before .before .before .types .given
 
 same-length-2 : tie.Need-same-length-2
-same-length-2 c = search needs
+same-length-2 c = c .before .before .before .before .edges .given
 
 same-length-3 : tie.Need-same-length-3
-same-length-3 c = search needs
+same-length-3 c = c .before .before .pairs .given
 
 returns : tie.Need-returns
-returns c = search needs
+returns c = c .before .before .before .before .before .before .before .large .ensures
 
 pub rows-of-some-spec : {M : Type 1} → statement M
 rows-of-some-spec =
