@@ -26,7 +26,12 @@ same-length-4 : tie.Need-same-length-4
 same-length-4 c = search needs
 
 returns : tie.Need-returns
-returns c = let p = c .before .before in let s = p .before .before .before .before .before .before .before .before .before .before .before in let a = s .before .before .before .before .before .before .before .before .before .args in let e = s .saturate .ensures in (p .put-run .ensures .0, p .put-run .ensures .1 .0 ∙ ap printed (came-outcome (s .saturate .result) (outcome (a .book .now) 4000 (a .types .now) (a .edges .now) (a .pairs .now)) (e .0) (e .1 .0) (e .1 .1 .0) (e .1 .1 .1 .0)))
+returns c =
+    let p = c .before .before in
+    let s = p .before .before .before .before .before .before .before .before .before .before .before in
+    let a = s .before .before .before .before .before .before .before .before .before .args in
+    let e = s .saturate .ensures in
+    (p .put-run .ensures .0, p .put-run .ensures .1 .0 ∙ ap printed (came-outcome (s .saturate .result) (outcome (a .book .now) 4000 (a .types .now) (a .edges .now) (a .pairs .now)) (e .0) (e .1 .0) (e .1 .1 .0) (e .1 .1 .1 .0)))
 
 pub run-spec : {M : Type 1} → statement M
 run-spec =

@@ -36,13 +36,17 @@ denies-requires : tie.Need-denies-requires Inv-loop μ-loop
 denies-requires c κs = let p = c .before .before .before .before .before .before .before .before .before .pre in ((p .1 .0, p .1 .1), (c .before .before .before .next-heeded .ensures .within _ _ (c .before .turn .given .1) .body, p .1 .2))
 
 returns-2 : tie.Need-returns-2 Inv-loop μ-loop
-returns-2 c = let s = c .before .before .before .before .before .before .before .before .before .before .before in left-denied (s .args .book .now) (s .args .counts) (readerOf (s .args .names) (s .args .table .now)) (held (sizeOf (s .args .counts)) (s .args .labels .now) (s .args .t .now)) _ _ (heeded-next _ _ _ _ _ (c .before .before .before .before .before .next-heeded .ensures) _ _ (c .before .before .before .turn .given .1)) (c .before .denies .ensures) (c .if1 .taken) ∙ sym (c .before .before .before .before .before .before .loop .inv)
+returns-2 c =
+    let s = c .before .before .before .before .before .before .before .before .before .before .before in
+    left-denied (s .args .book .now) (s .args .counts) (readerOf (s .args .names) (s .args .table .now)) (held (sizeOf (s .args .counts)) (s .args .labels .now) (s .args .t .now)) _ _ (heeded-next _ _ _ _ _ (c .before .before .before .before .before .next-heeded .ensures) _ _ (c .before .before .before .turn .given .1)) (c .before .denies .ensures) (c .if1 .taken) ∙ sym (c .before .before .before .before .before .before .loop .inv)
 
 loop-less : tie.Need-loop-less Inv-loop μ-loop
 loop-less c = let g = c .before .before .before .before .before .next-heeded .ensures .goes _ _ (c .before .before .before .turn .given .1) in omega (arith, g .0, g .1)
 
 loop-again : tie.Need-loop-again Inv-loop μ-loop
-loop-again c = let s = c .before .before .before .before .before .before .before .before .before .before .before in c .before .before .before .before .before .before .loop .inv ∙ left-next (s .args .book .now) (s .args .counts) (readerOf (s .args .names) (s .args .table .now)) (held (sizeOf (s .args .counts)) (s .args .labels .now) (s .args .t .now)) _ _ (heeded-next _ _ _ _ _ (c .before .before .before .before .before .next-heeded .ensures) _ _ (c .before .before .before .turn .given .1)) (c .before .denies .ensures) (c .if1 .left)
+loop-again c =
+    let s = c .before .before .before .before .before .before .before .before .before .before .before in
+    c .before .before .before .before .before .before .loop .inv ∙ left-next (s .args .book .now) (s .args .counts) (readerOf (s .args .names) (s .args .table .now)) (held (sizeOf (s .args .counts)) (s .args .labels .now) (s .args .t .now)) _ _ (heeded-next _ _ _ _ _ (c .before .before .before .before .before .next-heeded .ensures) _ _ (c .before .before .before .turn .given .1)) (c .before .denies .ensures) (c .if1 .left)
 
 pub any-denied-spec : {M : Type 1} → statement M
 any-denied-spec =

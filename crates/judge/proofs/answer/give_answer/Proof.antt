@@ -36,7 +36,10 @@ finished-requires : tie.Need-finished-requires
 finished-requires c κs = search needs
 
 returns-2 : tie.Need-returns-2
-returns-2 c = let s = c .before .before .before .before .before .before .before .before .before .before .before in let e = rw (c .before .before .before .layout-of .ensures) at (c .before .before .part-of .ensures) in rw (c .before .before .before .before .before .end .given .1) (c .finished .ensures ∙ ap (λ (b : Bool). judged b (Finished (c .before .before .before .before .before .end .given .0 .0) (c .before .before .before .before .before .end .given .0 .1 .0) (c .before .before .before .before .before .end .given .0 .1 .1 .0))) (rw e at (c .before .is-shown .ensures)))
+returns-2 c =
+    let s = c .before .before .before .before .before .before .before .before .before .before .before in
+    let e = rw (c .before .before .before .layout-of .ensures) at (c .before .before .part-of .ensures) in
+    rw (c .before .before .before .before .before .end .given .1) (c .finished .ensures ∙ ap (λ (b : Bool). judged b (Finished (c .before .before .before .before .before .end .given .0 .0) (c .before .before .before .before .before .end .given .0 .1 .0) (c .before .before .before .before .before .end .given .0 .1 .1 .0))) (rw e at (c .before .is-shown .ensures)))
 
 pub give-answer-spec : {M : Type 1} → statement M
 give-answer-spec =

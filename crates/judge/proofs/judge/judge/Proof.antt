@@ -26,7 +26,10 @@ same-length-3 : tie.Need-same-length-3
 same-length-3 c = search needs
 
 returns : tie.Need-returns
-returns c = let a = c .before .before .before .before .before .before .before .before .before .before .before .before .before .before .before .args in let e = c .before .before .before .before .before .before .run .ensures ∙ ap (λ (d : Decoded). memberOf d (a .budget) (a .types .now) (a .edges .now) (a .pairs .now) (a .individual) (a .concept)) (decode-all (a .book .now)) in (e, judgement-gave (a .book .now) (a .budget) (a .types .now) (a .edges .now) (a .pairs .now) (a .individual) (a .concept) e)
+returns c =
+    let a = c .before .before .before .before .before .before .before .before .before .before .before .before .before .before .before .args in
+    let e = c .before .before .before .before .before .before .run .ensures ∙ ap (λ (d : Decoded). memberOf d (a .budget) (a .types .now) (a .edges .now) (a .pairs .now) (a .individual) (a .concept)) (decode-all (a .book .now)) in
+    (e, judgement-gave (a .book .now) (a .budget) (a .types .now) (a .edges .now) (a .pairs .now) (a .individual) (a .concept) e)
 
 pub judge-spec : {M : Type 1} → statement M
 judge-spec =

@@ -13,19 +13,34 @@ use Rattle.judge.proofs.judge.run.Lts as lts
 use Rattle.judge.proofs.judge.run_admitted.Reads as run-admitted-reads
 
 returns : tie.Need-returns
-returns c = let a = c .before .before .before .before .before .before .args in let i = a .question .individual in let q = a .question .concept in let d = decodeFor (readerOf (a .names) (a .table .now)) (a .book .now) in sym (member-refused (a .budget) (a .types .now) (a .edges .now) (a .pairs .now) i q d 1 (refused-1 (a .types .now) (a .edges .now) (a .pairs .now) (questioned i q d) (a .budget) (omega arith)))
+returns c =
+    let a = c .before .before .before .before .before .before .args in
+    let i = a .question .individual in
+    let q = a .question .concept in
+    let d = decodeFor (readerOf (a .names) (a .table .now)) (a .book .now) in
+    sym (member-refused (a .budget) (a .types .now) (a .edges .now) (a .pairs .now) i q d 1 (refused-1 (a .types .now) (a .edges .now) (a .pairs .now) (questioned i q d) (a .budget) (omega arith)))
 
 mul-if2 : tie.Need-mul-if2
 mul-if2 c = search needs
 
 returns-2 : tie.Need-returns-2
-returns-2 c = let a = c .before .before .before .before .before .before .before .args in let i = a .question .individual in let q = a .question .concept in let d = decodeFor (readerOf (a .names) (a .table .now)) (a .book .now) in sym (member-refused (a .budget) (a .types .now) (a .edges .now) (a .pairs .now) i q d 2 (refused-2 (a .types .now) (a .edges .now) (a .pairs .now) (questioned i q d) (a .budget) (omega arith) (omega arith)))
+returns-2 c =
+    let a = c .before .before .before .before .before .before .before .args in
+    let i = a .question .individual in
+    let q = a .question .concept in
+    let d = decodeFor (readerOf (a .names) (a .table .now)) (a .book .now) in
+    sym (member-refused (a .budget) (a .types .now) (a .edges .now) (a .pairs .now) i q d 2 (refused-2 (a .types .now) (a .edges .now) (a .pairs .now) (questioned i q d) (a .budget) (omega arith) (omega arith)))
 
 mul-if3 : tie.Need-mul-if3
 mul-if3 c = search needs
 
 returns-3 : tie.Need-returns-3
-returns-3 c = let a = c .before .before .before .before .before .before .before .before .args in let i = a .question .individual in let q = a .question .concept in let d = decodeFor (readerOf (a .names) (a .table .now)) (a .book .now) in sym (member-refused (a .budget) (a .types .now) (a .edges .now) (a .pairs .now) i q d 3 (refused-3 (a .types .now) (a .edges .now) (a .pairs .now) (questioned i q d) (a .budget) (omega arith) (omega arith) (omega arith)))
+returns-3 c =
+    let a = c .before .before .before .before .before .before .before .before .args in
+    let i = a .question .individual in
+    let q = a .question .concept in
+    let d = decodeFor (readerOf (a .names) (a .table .now)) (a .book .now) in
+    sym (member-refused (a .budget) (a .types .now) (a .edges .now) (a .pairs .now) i q d 3 (refused-3 (a .types .now) (a .edges .now) (a .pairs .now) (questioned i q d) (a .budget) (omega arith) (omega arith) (omega arith)))
 
 cast-run-admitted : tie.Need-cast-run-admitted
 cast-run-admitted c = search needs

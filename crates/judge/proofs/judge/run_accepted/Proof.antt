@@ -21,7 +21,13 @@ returns-2 : tie.Need-returns-2
 returns-2 c = let s = c .before .before .before .before .before .before .before .before .before .before .before .before .before in let a = s .args in let p = s .pre in let i = a .question .individual in let k = a .question .concept in no-such-concept (p .1 .1 .1) (a .pairs .now) i k (a .task .names) (a .table .now) (p .1 .1 .0) (p .0) (omega (arith, c .if2 .taken))
 
 allot-requires : tie.Need-allot-requires
-allot-requires c κs = let s = c .before .before .before .before .before .before .before .before .before .before .before .before .before .before .before .before in let a = s .args in let p = s .pre in let i = a .question .individual in let k = a .question .concept in (p .0, (p .1 .0, (p .1 .1 .0, (p .1 .1 .1, (omega (arith, c .before .before .before .if2 .left), omega (arith, c .before .before .before .before .before .before .if1 .left))))))
+allot-requires c κs =
+    let s = c .before .before .before .before .before .before .before .before .before .before .before .before .before .before .before .before in
+    let a = s .args in
+    let p = s .pre in
+    let i = a .question .individual in
+    let k = a .question .concept in
+    (p .0, (p .1 .0, (p .1 .1 .0, (p .1 .1 .1, (omega (arith, c .before .before .before .if2 .left), omega (arith, c .before .before .before .before .before .before .if1 .left))))))
 
 same-length : tie.Need-same-length
 same-length c = search needs
@@ -33,7 +39,13 @@ same-length-3 : tie.Need-same-length-3
 same-length-3 c = search needs
 
 returns-3 : tie.Need-returns-3
-returns-3 c = let s = c .before .before .before .before .before .before .before .before .before .before .before .before .before .before .before .before .before .before .before .before .before .before .before in let a = s .args in let p = s .pre in let i = a .question .individual in let k = a .question .concept in c .before .before .before .before .before .before .allot .ensures ∙ own-gave (p .1 .1 .1) (a .pairs .now) i k (a .task .names) (a .table .now) (p .1 .1 .0) (p .0) (omega (arith, c .before .before .before .before .before .before .before .before .before .before .before .before .before .if1 .left)) (omega (arith, c .before .before .before .before .before .before .before .before .before .before .if2 .left))
+returns-3 c =
+    let s = c .before .before .before .before .before .before .before .before .before .before .before .before .before .before .before .before .before .before .before .before .before .before .before in
+    let a = s .args in
+    let p = s .pre in
+    let i = a .question .individual in
+    let k = a .question .concept in
+    c .before .before .before .before .before .before .allot .ensures ∙ own-gave (p .1 .1 .1) (a .pairs .now) i k (a .task .names) (a .table .now) (p .1 .1 .0) (p .0) (omega (arith, c .before .before .before .before .before .before .before .before .before .before .before .before .before .if1 .left)) (omega (arith, c .before .before .before .before .before .before .before .before .before .before .if2 .left))
 
 pub run-accepted-spec : {M : Type 1} → statement M
 run-accepted-spec =

@@ -63,7 +63,18 @@ concept-is-done-requires : (t : ℕ) → concept-lts.Need-is-done-requires (
   set-done-reads.Asked,
   set-done-reads.Learnt,
 ) (concept-at t) concept.Post
-concept-is-done-requires t c κs = let s = c .before .before .before .before .before .before .before in let b = s .args .book .now in let h = s .args .counts in let x = s .args .t .now in let g = s .args .groups .now in let k = s .args .k in let ready = s .pre .1 .0 in let memo = s .pre .1 .1 .0 in let own = s .pre .1 .1 .1 in let top = open-limits (ready .book) .concepts-top in omega (arith, memo .done-room, top, own)
+concept-is-done-requires t c κs =
+    let s = c .before .before .before .before .before .before .before in
+    let b = s .args .book .now in
+    let h = s .args .counts in
+    let x = s .args .t .now in
+    let g = s .args .groups .now in
+    let k = s .args .k in
+    let ready = s .pre .1 .0 in
+    let memo = s .pre .1 .1 .0 in
+    let own = s .pre .1 .1 .1 in
+    let top = open-limits (ready .book) .concepts-top in
+    omega (arith, memo .done-room, top, own)
 
 concept-same-length : (t : ℕ) → concept-lts.Need-same-length (
   is-done-reads.Asked,
@@ -103,7 +114,18 @@ concept-returns : (t : ℕ) → concept-lts.Need-returns (
   set-done-reads.Asked,
   set-done-reads.Learnt,
 ) (concept-at t) concept.Post
-concept-returns t c = let s = c .before .before .before .before .before .before .before .before .before in let b = s .args .book .now in let h = s .args .counts in let x = s .args .t .now in let g = s .args .groups .now in let k = s .args .k in let ready = s .pre .1 .0 in let memo = s .pre .1 .1 .0 in let own = s .pre .1 .1 .1 in let top = open-limits (ready .book) .concepts-top in judged-before b h x g k memo (c .before .is-done .ensures) (c .if1 .taken)
+concept-returns t c =
+    let s = c .before .before .before .before .before .before .before .before .before in
+    let b = s .args .book .now in
+    let h = s .args .counts in
+    let x = s .args .t .now in
+    let g = s .args .groups .now in
+    let k = s .args .k in
+    let ready = s .pre .1 .0 in
+    let memo = s .pre .1 .1 .0 in
+    let own = s .pre .1 .1 .1 in
+    let top = open-limits (ready .book) .concepts-top in
+    judged-before b h x g k memo (c .before .is-done .ensures) (c .if1 .taken)
 
 concept-record-at-requires : (t : ℕ) → concept-lts.Need-record-at-requires (
   is-done-reads.Asked,
@@ -123,7 +145,18 @@ concept-record-at-requires : (t : ℕ) → concept-lts.Need-record-at-requires (
   set-done-reads.Asked,
   set-done-reads.Learnt,
 ) (concept-at t) concept.Post
-concept-record-at-requires t c κs = let s = c .before .before .before .before .before .before .before .before .before in let b = s .args .book .now in let h = s .args .counts in let x = s .args .t .now in let g = s .args .groups .now in let k = s .args .k in let ready = s .pre .1 .0 in let memo = s .pre .1 .1 .0 in let own = s .pre .1 .1 .1 in let top = open-limits (ready .book) .concepts-top in (ready .book, own)
+concept-record-at-requires t c κs =
+    let s = c .before .before .before .before .before .before .before .before .before in
+    let b = s .args .book .now in
+    let h = s .args .counts in
+    let x = s .args .t .now in
+    let g = s .args .groups .now in
+    let k = s .args .k in
+    let ready = s .pre .1 .0 in
+    let memo = s .pre .1 .1 .0 in
+    let own = s .pre .1 .1 .1 in
+    let top = open-limits (ready .book) .concepts-top in
+    (ready .book, own)
 
 concept-way-of-requires : (t : ℕ) → concept-lts.Need-way-of-requires (
   is-done-reads.Asked,
@@ -203,7 +236,18 @@ concept-begin-requires : (t : ℕ) → concept-lts.Need-begin-requires (
   set-done-reads.Asked,
   set-done-reads.Learnt,
 ) (concept-at t) concept.Post
-concept-begin-requires t c κs = let s = c .before .before .before .before .before .before .before .before .before .before .before .before .before in let b = s .args .book .now in let h = s .args .counts in let x = s .args .t .now in let g = s .args .groups .now in let k = s .args .k in let ready = s .pre .1 .0 in let memo = s .pre .1 .1 .0 in let own = s .pre .1 .1 .1 in let top = open-limits (ready .book) .concepts-top in (ready .laid, (record-start b h k (c .before .before .before .record-at .result) (c .before .before .before .record-at .ensures .within), (λ i l. blank 8 (0 * 512 + i), omega arith)))
+concept-begin-requires t c κs =
+    let s = c .before .before .before .before .before .before .before .before .before .before .before .before .before in
+    let b = s .args .book .now in
+    let h = s .args .counts in
+    let x = s .args .t .now in
+    let g = s .args .groups .now in
+    let k = s .args .k in
+    let ready = s .pre .1 .0 in
+    let memo = s .pre .1 .1 .0 in
+    let own = s .pre .1 .1 .1 in
+    let top = open-limits (ready .book) .concepts-top in
+    (ready .laid, (record-start b h k (c .before .before .before .record-at .result) (c .before .before .before .record-at .ensures .within), (λ i l. blank 8 (0 * 512 + i), omega arith)))
 
 concept-slice-aggregate-parts : (t : ℕ) → concept-lts.Need-slice-aggregate-parts (
   is-done-reads.Asked,
@@ -243,7 +287,18 @@ concept-parts-requires : (t : ℕ) → concept-lts.Need-parts-requires (
   set-done-reads.Asked,
   set-done-reads.Learnt,
 ) (concept-at t) concept.Post
-concept-parts-requires t c κs = let s = c .before .before .before .before .before .before .before .before .before .before .before .before .before .before .before .before .before .before in let b = s .args .book .now in let h = s .args .counts in let x = s .args .t .now in let g = s .args .groups .now in let k = s .args .k in let ready = s .pre .1 .0 in let memo = s .pre .1 .1 .0 in let own = s .pre .1 .1 .1 in let top = open-limits (ready .book) .concepts-top in (omega (arith, s .pre .0), (ready, (memo, (subst (WayIn b h k) (sym (c .before .before .before .before .before .before .before .way-of .ensures)) (record-way b h k (c .before .before .before .before .before .before .before .before .record-at .result) (c .before .before .before .before .before .before .before .before .record-at .ensures .within)), (own, c .before .before .before .before .before .before .count-of .ensures, omega arith, omega (arith, c .before .before .before .before .begin .ensures .0))))))
+concept-parts-requires t c κs =
+    let s = c .before .before .before .before .before .before .before .before .before .before .before .before .before .before .before .before .before .before in
+    let b = s .args .book .now in
+    let h = s .args .counts in
+    let x = s .args .t .now in
+    let g = s .args .groups .now in
+    let k = s .args .k in
+    let ready = s .pre .1 .0 in
+    let memo = s .pre .1 .1 .0 in
+    let own = s .pre .1 .1 .1 in
+    let top = open-limits (ready .book) .concepts-top in
+    (omega (arith, s .pre .0), (ready, (memo, (subst (WayIn b h k) (sym (c .before .before .before .before .before .before .before .way-of .ensures)) (record-way b h k (c .before .before .before .before .before .before .before .before .record-at .result) (c .before .before .before .before .before .before .before .before .record-at .ensures .within)), (own, c .before .before .before .before .before .before .count-of .ensures, omega arith, omega (arith, c .before .before .before .before .begin .ensures .0))))))
 
 concept-slice-aggregate-copy : (t : ℕ) → concept-lts.Need-slice-aggregate-copy (
   is-done-reads.Asked,
@@ -283,7 +338,18 @@ concept-copy-requires : (t : ℕ) → concept-lts.Need-copy-requires (
   set-done-reads.Asked,
   set-done-reads.Learnt,
 ) (concept-at t) concept.Post
-concept-copy-requires t c κs = let s = c .before .before .before .before .before .before .before .before .before .before .before .before .before .before .before .before .before .before .before .before .before .before .before .before .before .before in let b = s .args .book .now in let h = s .args .counts in let x = s .args .t .now in let g = s .args .groups .now in let k = s .args .k in let ready = s .pre .1 .0 in let memo = s .pre .1 .1 .0 in let own = s .pre .1 .1 .1 in let top = open-limits (ready .book) .concepts-top in (omega (arith, c .before .before .before .before .before .before .before .parts .ensures .acc-len, c .before .before .before .before .before .before .before .before .before .before .before .before .begin .ensures .0), omega (arith, c .before .before .before .before .before .before .before .parts .ensures .further .rows-len, memo .rows-room, own))
+concept-copy-requires t c κs =
+    let s = c .before .before .before .before .before .before .before .before .before .before .before .before .before .before .before .before .before .before .before .before .before .before .before .before .before .before in
+    let b = s .args .book .now in
+    let h = s .args .counts in
+    let x = s .args .t .now in
+    let g = s .args .groups .now in
+    let k = s .args .k in
+    let ready = s .pre .1 .0 in
+    let memo = s .pre .1 .1 .0 in
+    let own = s .pre .1 .1 .1 in
+    let top = open-limits (ready .book) .concepts-top in
+    (omega (arith, c .before .before .before .before .before .before .before .parts .ensures .acc-len, c .before .before .before .before .before .before .before .before .before .before .before .before .begin .ensures .0), omega (arith, c .before .before .before .before .before .before .before .parts .ensures .further .rows-len, memo .rows-room, own))
 
 concept-set-done-requires : (t : ℕ) → concept-lts.Need-set-done-requires (
   is-done-reads.Asked,
@@ -303,7 +369,18 @@ concept-set-done-requires : (t : ℕ) → concept-lts.Need-set-done-requires (
   set-done-reads.Asked,
   set-done-reads.Learnt,
 ) (concept-at t) concept.Post
-concept-set-done-requires t c κs = let s = c .before .before .before .before .before .before .before .before .before .before .before .before .before .before .before .before .before .before .before .before .before .before .before .before .before .before .before .before .before .before in let b = s .args .book .now in let h = s .args .counts in let x = s .args .t .now in let g = s .args .groups .now in let k = s .args .k in let ready = s .pre .1 .0 in let memo = s .pre .1 .1 .0 in let own = s .pre .1 .1 .1 in let top = open-limits (ready .book) .concepts-top in (omega (arith, c .before .before .before .before .before .before .before .before .before .before .before .parts .ensures .further .done-len, memo .done-room), omega (arith, top, own))
+concept-set-done-requires t c κs =
+    let s = c .before .before .before .before .before .before .before .before .before .before .before .before .before .before .before .before .before .before .before .before .before .before .before .before .before .before .before .before .before .before in
+    let b = s .args .book .now in
+    let h = s .args .counts in
+    let x = s .args .t .now in
+    let g = s .args .groups .now in
+    let k = s .args .k in
+    let ready = s .pre .1 .0 in
+    let memo = s .pre .1 .1 .0 in
+    let own = s .pre .1 .1 .1 in
+    let top = open-limits (ready .book) .concepts-top in
+    (omega (arith, c .before .before .before .before .before .before .before .before .before .before .before .parts .ensures .further .done-len, memo .done-room), omega (arith, top, own))
 
 concept-same-length-2 : (t : ℕ) → concept-lts.Need-same-length-2 (
   is-done-reads.Asked,
@@ -363,7 +440,18 @@ concept-returns-2 : (t : ℕ) → concept-lts.Need-returns-2 (
   set-done-reads.Asked,
   set-done-reads.Learnt,
 ) (concept-at t) concept.Post
-concept-returns-2 t c = let s = c .before .before .before .before .before .before .before .before .before .before .before .before .before .before .before .before .before .before .before .before .before .before .before .before .before .before .before .before .before .before .before .before .before in let b = s .args .book .now in let h = s .args .counts in let x = s .args .t .now in let g = s .args .groups .now in let k = s .args .k in let ready = s .pre .1 .0 in let memo = s .pre .1 .1 .0 in let own = s .pre .1 .1 .1 in let top = open-limits (ready .book) .concepts-top in judged-new b h x g _ k (open-limits (ready .book) .individuals-top) (c .before .before .before .before .before .before .before .before .before .before .before .before .before .before .before .before .before .before .before .before .before .before .before .record-at .ensures) (c .before .before .before .before .before .before .before .before .before .before .before .before .before .before .before .before .before .before .before .before .before .before .way-of .ensures) refl (c .before .before .before .before .before .before .before .before .before .before .before .before .before .before .before .before .before .before .before .begin .ensures .1) (c .before .before .before .before .before .before .before .before .before .before .before .before .before .before .parts .ensures) (c .before .before .before .before .before .before .copy .ensures) (c .before .before .set-done .ensures)
+concept-returns-2 t c =
+    let s = c .before .before .before .before .before .before .before .before .before .before .before .before .before .before .before .before .before .before .before .before .before .before .before .before .before .before .before .before .before .before .before .before .before in
+    let b = s .args .book .now in
+    let h = s .args .counts in
+    let x = s .args .t .now in
+    let g = s .args .groups .now in
+    let k = s .args .k in
+    let ready = s .pre .1 .0 in
+    let memo = s .pre .1 .1 .0 in
+    let own = s .pre .1 .1 .1 in
+    let top = open-limits (ready .book) .concepts-top in
+    judged-new b h x g _ k (open-limits (ready .book) .individuals-top) (c .before .before .before .before .before .before .before .before .before .before .before .before .before .before .before .before .before .before .before .before .before .before .before .record-at .ensures) (c .before .before .before .before .before .before .before .before .before .before .before .before .before .before .before .before .before .before .before .before .before .before .way-of .ensures) refl (c .before .before .before .before .before .before .before .before .before .before .before .before .before .before .before .before .before .before .before .begin .ensures .1) (c .before .before .before .before .before .before .before .before .before .before .before .before .before .before .parts .ensures) (c .before .before .before .before .before .before .copy .ensures) (c .before .before .set-done .ensures)
 
 parts-give-done-requires : (t : ℕ) → parts-lts.Need-give-done-requires (
   give-done-reads.Asked,
@@ -377,7 +465,16 @@ parts-give-done-requires : (t : ℕ) → parts-lts.Need-give-done-requires (
   parts-below t,
   parts.Post,
 ) (parts-at t) parts.Post
-parts-give-done-requires t c κs = let s = c .before .before .before .before .before .before .before .before .before .before in let b = s .args .book .now in let h = s .args .counts in let x = s .args .t .now in let g = s .args .groups .now in let ready = s .pre .1 .0 in let memo = s .pre .1 .1 .0 in let own = s .pre .1 .1 .1 .1 in (ready .laid .table, (s .pre .1 .1 .1 .0, ((own .0, open-limits (ready .book) .concepts-top, memo .rows-room, memo .done-room), (own .1, own .2, own .3))))
+parts-give-done-requires t c κs =
+    let s = c .before .before .before .before .before .before .before .before .before .before in
+    let b = s .args .book .now in
+    let h = s .args .counts in
+    let x = s .args .t .now in
+    let g = s .args .groups .now in
+    let ready = s .pre .1 .0 in
+    let memo = s .pre .1 .1 .0 in
+    let own = s .pre .1 .1 .1 .1 in
+    (ready .laid .table, (s .pre .1 .1 .1 .0, ((own .0, open-limits (ready .book) .concepts-top, memo .rows-room, memo .done-room), (own .1, own .2, own .3))))
 
 parts-same-length : (t : ℕ) → parts-lts.Need-same-length (
   give-done-reads.Asked,
@@ -433,7 +530,14 @@ parts-returns : (t : ℕ) → parts-lts.Need-returns (
   parts-below t,
   parts.Post,
 ) (parts-at t) parts.Post
-parts-returns t c = let s = c .before .before .before .before .before .before .before .before .before .before .before .before .before .before .before in let b = s .args .book .now in let h = s .args .counts in let x = s .args .t .now in let g = s .args .groups .now in let memo = s .pre .1 .1 .0 in mixed-end b h x g (s .args .left) (c .before .before .before .before .give-done .result) memo (c .before .before .before .before .give-done .ensures .0 .2) (c .before .before .before .before .give-done .ensures .1 g memo) (c .if1 .taken ∙ s .pre .1 .1 .1 .1 .1)
+parts-returns t c =
+    let s = c .before .before .before .before .before .before .before .before .before .before .before .before .before .before .before in
+    let b = s .args .book .now in
+    let h = s .args .counts in
+    let x = s .args .t .now in
+    let g = s .args .groups .now in
+    let memo = s .pre .1 .1 .0 in
+    mixed-end b h x g (s .args .left) (c .before .before .before .before .give-done .result) memo (c .before .before .before .before .give-done .ensures .0 .2) (c .before .before .before .before .give-done .ensures .1 g memo) (c .if1 .taken ∙ s .pre .1 .1 .1 .1 .1)
 
 parts-part-of-requires : (t : ℕ) → parts-lts.Need-part-of-requires (
   give-done-reads.Asked,
@@ -447,7 +551,21 @@ parts-part-of-requires : (t : ℕ) → parts-lts.Need-part-of-requires (
   parts-below t,
   parts.Post,
 ) (parts-at t) parts.Post
-parts-part-of-requires t c κs = let s = c .before .before .before .before .before .before .before .before .before .before .before .before .before .before .before in let b = s .args .book .now in let h = s .args .counts in let x = s .args .t .now in let g = s .args .groups .now in let v = s .args .left in let ready = s .pre .1 .0 in let memo = s .pre .1 .1 .0 in let way = s .pre .1 .1 .1 .0 in let own = s .pre .1 .1 .1 .1 in let r = c .before .before .before .before .give-done .result in let gone = c .before .before .before .before .give-done .ensures .0 in let l : c .before .before .before .before .give-done .result < countOf (v .way) = omega (arith, own .1, gone .0, c .if1 .left) in (way-inside b h (v .whole) (v .way) way, l)
+parts-part-of-requires t c κs =
+    let s = c .before .before .before .before .before .before .before .before .before .before .before .before .before .before .before in
+    let b = s .args .book .now in
+    let h = s .args .counts in
+    let x = s .args .t .now in
+    let g = s .args .groups .now in
+    let v = s .args .left in
+    let ready = s .pre .1 .0 in
+    let memo = s .pre .1 .1 .0 in
+    let way = s .pre .1 .1 .1 .0 in
+    let own = s .pre .1 .1 .1 .1 in
+    let r = c .before .before .before .before .give-done .result in
+    let gone = c .before .before .before .before .give-done .ensures .0 in
+    let l : c .before .before .before .before .give-done .result < countOf (v .way) = omega (arith, own .1, gone .0, c .if1 .left) in
+    (way-inside b h (v .whole) (v .way) way, l)
 
 parts-concept-requires : (t : ℕ) → parts-lts.Need-concept-requires (
   give-done-reads.Asked,
@@ -461,7 +579,24 @@ parts-concept-requires : (t : ℕ) → parts-lts.Need-concept-requires (
   parts-below t,
   parts.Post,
 ) (parts-at t) parts.Post
-parts-concept-requires t c κs = let s = c .before .before .before .before .before .before .before .before .before .before .before .before .before .before .before .before .before .before in let b = s .args .book .now in let h = s .args .counts in let x = s .args .t .now in let g = s .args .groups .now in let v = s .args .left in let ready = s .pre .1 .0 in let memo = s .pre .1 .1 .0 in let way = s .pre .1 .1 .1 .0 in let own = s .pre .1 .1 .1 .1 in let r = c .before .before .before .before .before .before .before .give-done .result in let gone = c .before .before .before .before .before .before .before .give-done .ensures .0 in let l : c .before .before .before .before .before .before .before .give-done .result < countOf (v .way) = omega (arith, own .1, gone .0, c .before .before .before .if1 .left) in let low = way-lower b h (v .whole) (v .way) (c .before .before .before .before .before .before .before .give-done .result) way l in let p : c .before .before .part-of .result < v .whole = omega (arith, c .before .before .part-of .ensures, low) in let q : c .before .before .part-of .result < h .concepts = omega (arith, p, own .0) in (omega (arith, s .pre .0, p), (ready, (memo, q)))
+parts-concept-requires t c κs =
+    let s = c .before .before .before .before .before .before .before .before .before .before .before .before .before .before .before .before .before .before in
+    let b = s .args .book .now in
+    let h = s .args .counts in
+    let x = s .args .t .now in
+    let g = s .args .groups .now in
+    let v = s .args .left in
+    let ready = s .pre .1 .0 in
+    let memo = s .pre .1 .1 .0 in
+    let way = s .pre .1 .1 .1 .0 in
+    let own = s .pre .1 .1 .1 .1 in
+    let r = c .before .before .before .before .before .before .before .give-done .result in
+    let gone = c .before .before .before .before .before .before .before .give-done .ensures .0 in
+    let l : c .before .before .before .before .before .before .before .give-done .result < countOf (v .way) = omega (arith, own .1, gone .0, c .before .before .before .if1 .left) in
+    let low = way-lower b h (v .whole) (v .way) (c .before .before .before .before .before .before .before .give-done .result) way l in
+    let p : c .before .before .part-of .result < v .whole = omega (arith, c .before .before .part-of .ensures, low) in
+    let q : c .before .before .part-of .result < h .concepts = omega (arith, p, own .0) in
+    (omega (arith, s .pre .0, p), (ready, (memo, q)))
 
 parts-give-requires : (t : ℕ) → parts-lts.Need-give-requires (
   give-done-reads.Asked,
@@ -475,7 +610,24 @@ parts-give-requires : (t : ℕ) → parts-lts.Need-give-requires (
   parts-below t,
   parts.Post,
 ) (parts-at t) parts.Post
-parts-give-requires t c κs = let s = c .before .before .before .before .before .before .before .before .before .before .before .before .before .before .before .before .before .before .before .before .before .before .before .before .before in let b = s .args .book .now in let h = s .args .counts in let x = s .args .t .now in let g = s .args .groups .now in let v = s .args .left in let ready = s .pre .1 .0 in let memo = s .pre .1 .1 .0 in let way = s .pre .1 .1 .1 .0 in let own = s .pre .1 .1 .1 .1 in let r = c .before .before .before .before .before .before .before .before .before .before .before .before .before .before .give-done .result in let gone = c .before .before .before .before .before .before .before .before .before .before .before .before .before .before .give-done .ensures .0 in let l : c .before .before .before .before .before .before .before .before .before .before .before .before .before .before .give-done .result < countOf (v .way) = omega (arith, own .1, gone .0, c .before .before .before .before .before .before .before .before .before .before .if1 .left) in let low = way-lower b h (v .whole) (v .way) (c .before .before .before .before .before .before .before .before .before .before .before .before .before .before .give-done .result) way l in let p : c .before .before .before .before .before .before .before .before .before .part-of .result < v .whole = omega (arith, c .before .before .before .before .before .before .before .before .before .part-of .ensures, low) in let q : c .before .before .before .before .before .before .before .before .before .part-of .result < h .concepts = omega (arith, p, own .0) in (ready .laid .table, (way-role b h (v .whole) (v .way) way, (omega (arith, own .3, gone .2), omega (arith, memo .rows-room, q, c .before .before .before .before .before .before .concept .ensures .further .rows-len))))
+parts-give-requires t c κs =
+    let s = c .before .before .before .before .before .before .before .before .before .before .before .before .before .before .before .before .before .before .before .before .before .before .before .before .before in
+    let b = s .args .book .now in
+    let h = s .args .counts in
+    let x = s .args .t .now in
+    let g = s .args .groups .now in
+    let v = s .args .left in
+    let ready = s .pre .1 .0 in
+    let memo = s .pre .1 .1 .0 in
+    let way = s .pre .1 .1 .1 .0 in
+    let own = s .pre .1 .1 .1 .1 in
+    let r = c .before .before .before .before .before .before .before .before .before .before .before .before .before .before .give-done .result in
+    let gone = c .before .before .before .before .before .before .before .before .before .before .before .before .before .before .give-done .ensures .0 in
+    let l : c .before .before .before .before .before .before .before .before .before .before .before .before .before .before .give-done .result < countOf (v .way) = omega (arith, own .1, gone .0, c .before .before .before .before .before .before .before .before .before .before .if1 .left) in
+    let low = way-lower b h (v .whole) (v .way) (c .before .before .before .before .before .before .before .before .before .before .before .before .before .before .give-done .result) way l in
+    let p : c .before .before .before .before .before .before .before .before .before .part-of .result < v .whole = omega (arith, c .before .before .before .before .before .before .before .before .before .part-of .ensures, low) in
+    let q : c .before .before .before .before .before .before .before .before .before .part-of .result < h .concepts = omega (arith, p, own .0) in
+    (ready .laid .table, (way-role b h (v .whole) (v .way) way, (omega (arith, own .3, gone .2), omega (arith, memo .rows-room, q, c .before .before .before .before .before .before .concept .ensures .further .rows-len))))
 
 parts-add-t30 : (t : ℕ) → parts-lts.Need-add-t30 (
   give-done-reads.Asked,
@@ -489,7 +641,22 @@ parts-add-t30 : (t : ℕ) → parts-lts.Need-add-t30 (
   parts-below t,
   parts.Post,
 ) (parts-at t) parts.Post
-parts-add-t30 t c = let s = c .before .before .before .before .before .before .before .before .before .before .before .before .before .before .before .before .before .before .before .before .before .before .before .before .before .before .before .before in let b = s .args .book .now in let h = s .args .counts in let x = s .args .t .now in let g = s .args .groups .now in let v = s .args .left in let ready = s .pre .1 .0 in let memo = s .pre .1 .1 .0 in let way = s .pre .1 .1 .1 .0 in let own = s .pre .1 .1 .1 .1 in let r = c .before .before .before .before .before .before .before .before .before .before .before .before .before .before .before .before .before .give-done .result in let gone = c .before .before .before .before .before .before .before .before .before .before .before .before .before .before .before .before .before .give-done .ensures .0 in let l : c .before .before .before .before .before .before .before .before .before .before .before .before .before .before .before .before .before .give-done .result < countOf (v .way) = omega (arith, own .1, gone .0, c .before .before .before .before .before .before .before .before .before .before .before .before .before .if1 .left) in let fits = c .before .before .before .before .before .before .before .before .before .before .before .before .before .before .struct-known .given in omega (arith, l, own .1)
+parts-add-t30 t c =
+    let s = c .before .before .before .before .before .before .before .before .before .before .before .before .before .before .before .before .before .before .before .before .before .before .before .before .before .before .before .before in
+    let b = s .args .book .now in
+    let h = s .args .counts in
+    let x = s .args .t .now in
+    let g = s .args .groups .now in
+    let v = s .args .left in
+    let ready = s .pre .1 .0 in
+    let memo = s .pre .1 .1 .0 in
+    let way = s .pre .1 .1 .1 .0 in
+    let own = s .pre .1 .1 .1 .1 in
+    let r = c .before .before .before .before .before .before .before .before .before .before .before .before .before .before .before .before .before .give-done .result in
+    let gone = c .before .before .before .before .before .before .before .before .before .before .before .before .before .before .before .before .before .give-done .ensures .0 in
+    let l : c .before .before .before .before .before .before .before .before .before .before .before .before .before .before .before .before .before .give-done .result < countOf (v .way) = omega (arith, own .1, gone .0, c .before .before .before .before .before .before .before .before .before .before .before .before .before .if1 .left) in
+    let fits = c .before .before .before .before .before .before .before .before .before .before .before .before .before .before .struct-known .given in
+    omega (arith, l, own .1)
 
 parts-parts-requires : (t : ℕ) → parts-lts.Need-parts-requires (
   give-done-reads.Asked,
@@ -503,7 +670,24 @@ parts-parts-requires : (t : ℕ) → parts-lts.Need-parts-requires (
   parts-below t,
   parts.Post,
 ) (parts-at t) parts.Post
-parts-parts-requires t c κs = let s = c .before .before .before .before .before .before .before .before .before .before .before .before .before .before .before .before .before .before .before .before .before .before .before .before .before .before .before .before .before .before .before in let b = s .args .book .now in let h = s .args .counts in let x = s .args .t .now in let g = s .args .groups .now in let v = s .args .left in let ready = s .pre .1 .0 in let memo = s .pre .1 .1 .0 in let way = s .pre .1 .1 .1 .0 in let own = s .pre .1 .1 .1 .1 in let r = c .before .before .before .before .before .before .before .before .before .before .before .before .before .before .before .before .before .before .before .before .give-done .result in let gone = c .before .before .before .before .before .before .before .before .before .before .before .before .before .before .before .before .before .before .before .before .give-done .ensures .0 in let l : c .before .before .before .before .before .before .before .before .before .before .before .before .before .before .before .before .before .before .before .before .give-done .result < countOf (v .way) = omega (arith, own .1, gone .0, c .before .before .before .before .before .before .before .before .before .before .before .before .before .before .before .before .if1 .left) in let low = way-lower b h (v .whole) (v .way) (c .before .before .before .before .before .before .before .before .before .before .before .before .before .before .before .before .before .before .before .before .give-done .result) way l in let p : c .before .before .before .before .before .before .before .before .before .before .before .before .before .before .before .part-of .result < v .whole = omega (arith, c .before .before .before .before .before .before .before .before .before .before .before .before .before .before .before .part-of .ensures, low) in let q : c .before .before .before .before .before .before .before .before .before .before .before .before .before .before .before .part-of .result < h .concepts = omega (arith, p, own .0) in (omega (arith, s .pre .0, own .1, l, gone .1), (ready, (c .before .before .before .before .before .before .before .before .before .before .before .before .concept .ensures .further .memo, (way, (own .0, own .1, omega (arith, own .1, l), omega (arith, own .3, gone .2, c .before .before .before .before .before .give .ensures .0))))))
+parts-parts-requires t c κs =
+    let s = c .before .before .before .before .before .before .before .before .before .before .before .before .before .before .before .before .before .before .before .before .before .before .before .before .before .before .before .before .before .before .before in
+    let b = s .args .book .now in
+    let h = s .args .counts in
+    let x = s .args .t .now in
+    let g = s .args .groups .now in
+    let v = s .args .left in
+    let ready = s .pre .1 .0 in
+    let memo = s .pre .1 .1 .0 in
+    let way = s .pre .1 .1 .1 .0 in
+    let own = s .pre .1 .1 .1 .1 in
+    let r = c .before .before .before .before .before .before .before .before .before .before .before .before .before .before .before .before .before .before .before .before .give-done .result in
+    let gone = c .before .before .before .before .before .before .before .before .before .before .before .before .before .before .before .before .before .before .before .before .give-done .ensures .0 in
+    let l : c .before .before .before .before .before .before .before .before .before .before .before .before .before .before .before .before .before .before .before .before .give-done .result < countOf (v .way) = omega (arith, own .1, gone .0, c .before .before .before .before .before .before .before .before .before .before .before .before .before .before .before .before .if1 .left) in
+    let low = way-lower b h (v .whole) (v .way) (c .before .before .before .before .before .before .before .before .before .before .before .before .before .before .before .before .before .before .before .before .give-done .result) way l in
+    let p : c .before .before .before .before .before .before .before .before .before .before .before .before .before .before .before .part-of .result < v .whole = omega (arith, c .before .before .before .before .before .before .before .before .before .before .before .before .before .before .before .part-of .ensures, low) in
+    let q : c .before .before .before .before .before .before .before .before .before .before .before .before .before .before .before .part-of .result < h .concepts = omega (arith, p, own .0) in
+    (omega (arith, s .pre .0, own .1, l, gone .1), (ready, (c .before .before .before .before .before .before .before .before .before .before .before .before .concept .ensures .further .memo, (way, (own .0, own .1, omega (arith, own .1, l), omega (arith, own .3, gone .2, c .before .before .before .before .before .give .ensures .0))))))
 
 parts-same-length-4 : (t : ℕ) → parts-lts.Need-same-length-4 (
   give-done-reads.Asked,
@@ -559,7 +743,24 @@ parts-returns-2 : (t : ℕ) → parts-lts.Need-returns-2 (
   parts-below t,
   parts.Post,
 ) (parts-at t) parts.Post
-parts-returns-2 t c = let s = c .before .before .before .before .before .before .before .before .before .before .before .before .before .before .before .before .before .before .before .before .before .before .before .before .before .before .before .before .before .before .before .before .before .before .before .before .before .before in let b = s .args .book .now in let h = s .args .counts in let x = s .args .t .now in let g = s .args .groups .now in let v = s .args .left in let ready = s .pre .1 .0 in let memo = s .pre .1 .1 .0 in let way = s .pre .1 .1 .1 .0 in let own = s .pre .1 .1 .1 .1 in let r = c .before .before .before .before .before .before .before .before .before .before .before .before .before .before .before .before .before .before .before .before .before .before .before .before .before .before .before .give-done .result in let gone = c .before .before .before .before .before .before .before .before .before .before .before .before .before .before .before .before .before .before .before .before .before .before .before .before .before .before .before .give-done .ensures .0 in let l : c .before .before .before .before .before .before .before .before .before .before .before .before .before .before .before .before .before .before .before .before .before .before .before .before .before .before .before .give-done .result < countOf (v .way) = omega (arith, own .1, gone .0, c .before .before .before .before .before .before .before .before .before .before .before .before .before .before .before .before .before .before .before .before .before .before .before .if1 .left) in let low = way-lower b h (v .whole) (v .way) (c .before .before .before .before .before .before .before .before .before .before .before .before .before .before .before .before .before .before .before .before .before .before .before .before .before .before .before .give-done .result) way l in let p : c .before .before .before .before .before .before .before .before .before .before .before .before .before .before .before .before .before .before .before .before .before .before .part-of .result < v .whole = omega (arith, c .before .before .before .before .before .before .before .before .before .before .before .before .before .before .before .before .before .before .before .before .before .before .part-of .ensures, low) in let q : c .before .before .before .before .before .before .before .before .before .before .before .before .before .before .before .before .before .before .before .before .before .before .part-of .result < h .concepts = omega (arith, p, own .0) in mixed-next b h x g _ v _ r (c .before .before .before .before .before .before .before .before .before .before .before .before .before .before .before .before .before .before .before .before .before .before .part-of .result) (c .before .before .before .before .before .before .before .before .before .before .before .before .before .before .before .before .before .before .before .before .before .before .before .before .before .before .before .give-done .ensures .1 g memo) q (c .before .before .before .before .before .before .before .before .before .before .before .before .before .before .before .before .before .before .before .concept .ensures) (c .before .before .before .before .before .before .before .before .before .before .before .before .give .ensures .1) l (c .before .before .before .before .before .before .before .before .before .before .before .before .before .before .before .before .before .before .before .before .before .before .part-of .ensures) (c .before .before .before .before .before .before .before .before .before .before .before .before .give .ensures .0) (gone .2) refl refl (c .before .before .before .before .before .before .parts .ensures)
+parts-returns-2 t c =
+    let s = c .before .before .before .before .before .before .before .before .before .before .before .before .before .before .before .before .before .before .before .before .before .before .before .before .before .before .before .before .before .before .before .before .before .before .before .before .before .before in
+    let b = s .args .book .now in
+    let h = s .args .counts in
+    let x = s .args .t .now in
+    let g = s .args .groups .now in
+    let v = s .args .left in
+    let ready = s .pre .1 .0 in
+    let memo = s .pre .1 .1 .0 in
+    let way = s .pre .1 .1 .1 .0 in
+    let own = s .pre .1 .1 .1 .1 in
+    let r = c .before .before .before .before .before .before .before .before .before .before .before .before .before .before .before .before .before .before .before .before .before .before .before .before .before .before .before .give-done .result in
+    let gone = c .before .before .before .before .before .before .before .before .before .before .before .before .before .before .before .before .before .before .before .before .before .before .before .before .before .before .before .give-done .ensures .0 in
+    let l : c .before .before .before .before .before .before .before .before .before .before .before .before .before .before .before .before .before .before .before .before .before .before .before .before .before .before .before .give-done .result < countOf (v .way) = omega (arith, own .1, gone .0, c .before .before .before .before .before .before .before .before .before .before .before .before .before .before .before .before .before .before .before .before .before .before .before .if1 .left) in
+    let low = way-lower b h (v .whole) (v .way) (c .before .before .before .before .before .before .before .before .before .before .before .before .before .before .before .before .before .before .before .before .before .before .before .before .before .before .before .give-done .result) way l in
+    let p : c .before .before .before .before .before .before .before .before .before .before .before .before .before .before .before .before .before .before .before .before .before .before .part-of .result < v .whole = omega (arith, c .before .before .before .before .before .before .before .before .before .before .before .before .before .before .before .before .before .before .before .before .before .before .part-of .ensures, low) in
+    let q : c .before .before .before .before .before .before .before .before .before .before .before .before .before .before .before .before .before .before .before .before .before .before .part-of .result < h .concepts = omega (arith, p, own .0) in
+    mixed-next b h x g _ v _ r (c .before .before .before .before .before .before .before .before .before .before .before .before .before .before .before .before .before .before .before .before .before .before .part-of .result) (c .before .before .before .before .before .before .before .before .before .before .before .before .before .before .before .before .before .before .before .before .before .before .before .before .before .before .before .give-done .ensures .1 g memo) q (c .before .before .before .before .before .before .before .before .before .before .before .before .before .before .before .before .before .before .before .concept .ensures) (c .before .before .before .before .before .before .before .before .before .before .before .before .give .ensures .1) l (c .before .before .before .before .before .before .before .before .before .before .before .before .before .before .before .before .before .before .before .before .before .before .part-of .ensures) (c .before .before .before .before .before .before .before .before .before .before .before .before .give .ensures .0) (gone .2) refl refl (c .before .before .before .before .before .before .parts .ensures)
 
 pub +concept+parts-spec : {M : Type 1} → statement M
 +concept+parts-spec = close μ-concept μ-parts (λ t. concept-lts.spec (

@@ -25,13 +25,47 @@ loop-holds : tie.Need-loop-holds Inv-loop μ-loop
 loop-holds c = let s = c .before .before .before .before .before in let b = s .args .book .now in let h = s .args .counts in let v = s .args .left in let way = s .pre .1 .0 in let big = s .pre .1 .1 .0 in let own = s .pre .1 .1 .1 in (own .1, omega arith, refl, λ g m x q. refl)
 
 part-of-requires : tie.Need-part-of-requires Inv-loop μ-loop
-part-of-requires c κs = let s = c .before .before .before .before .before .before .before in let b = s .args .book .now in let h = s .args .counts in let v = s .args .left in let way = s .pre .1 .0 in let big = s .pre .1 .1 .0 in let own = s .pre .1 .1 .1 in let i = c .before .loop .next in let l : c .before .loop .next < countOf (v .way) = omega (arith, own .0, c .loop-test .taken) in (way-inside b h (v .whole) (v .way) way, l)
+part-of-requires c κs =
+    let s = c .before .before .before .before .before .before .before in
+    let b = s .args .book .now in
+    let h = s .args .counts in
+    let v = s .args .left in
+    let way = s .pre .1 .0 in
+    let big = s .pre .1 .1 .0 in
+    let own = s .pre .1 .1 .1 in
+    let i = c .before .loop .next in
+    let l : c .before .loop .next < countOf (v .way) = omega (arith, own .0, c .loop-test .taken) in
+    (way-inside b h (v .whole) (v .way) way, l)
 
 is-done-requires : tie.Need-is-done-requires Inv-loop μ-loop
-is-done-requires c κs = let s = c .before .before .before .before .before .before .before .before in let b = s .args .book .now in let h = s .args .counts in let v = s .args .left in let way = s .pre .1 .0 in let big = s .pre .1 .1 .0 in let own = s .pre .1 .1 .1 in let i = c .before .before .loop .next in let l : c .before .before .loop .next < countOf (v .way) = omega (arith, own .0, c .before .loop-test .taken) in let low = way-lower b h (v .whole) (v .way) (c .before .before .loop .next) way l in let q : c .part-of .result < h .concepts = omega (arith, c .part-of .ensures, low, big .0) in (big .3, omega (arith, q, big .1))
+is-done-requires c κs =
+    let s = c .before .before .before .before .before .before .before .before in
+    let b = s .args .book .now in
+    let h = s .args .counts in
+    let v = s .args .left in
+    let way = s .pre .1 .0 in
+    let big = s .pre .1 .1 .0 in
+    let own = s .pre .1 .1 .1 in
+    let i = c .before .before .loop .next in
+    let l : c .before .before .loop .next < countOf (v .way) = omega (arith, own .0, c .before .loop-test .taken) in
+    let low = way-lower b h (v .whole) (v .way) (c .before .before .loop .next) way l in
+    let q : c .part-of .result < h .concepts = omega (arith, c .part-of .ensures, low, big .0) in
+    (big .3, omega (arith, q, big .1))
 
 give-requires : tie.Need-give-requires Inv-loop μ-loop
-give-requires c κs = let s = c .before .before .before .before .before .before .before .before .before .before .before in let b = s .args .book .now in let h = s .args .counts in let v = s .args .left in let way = s .pre .1 .0 in let big = s .pre .1 .1 .0 in let own = s .pre .1 .1 .1 in let i = c .before .before .before .before .before .loop .next in let l : c .before .before .before .before .before .loop .next < countOf (v .way) = omega (arith, own .0, c .before .before .before .before .loop-test .taken) in let low = way-lower b h (v .whole) (v .way) (c .before .before .before .before .before .loop .next) way l in let q : c .before .before .before .part-of .result < h .concepts = omega (arith, c .before .before .before .part-of .ensures, low, big .0) in (s .pre .0, (way-role b h (v .whole) (v .way) way, (omega (arith, own .2, c .before .before .before .before .before .loop .inv .2), omega (arith, q, big .2))))
+give-requires c κs =
+    let s = c .before .before .before .before .before .before .before .before .before .before .before in
+    let b = s .args .book .now in
+    let h = s .args .counts in
+    let v = s .args .left in
+    let way = s .pre .1 .0 in
+    let big = s .pre .1 .1 .0 in
+    let own = s .pre .1 .1 .1 in
+    let i = c .before .before .before .before .before .loop .next in
+    let l : c .before .before .before .before .before .loop .next < countOf (v .way) = omega (arith, own .0, c .before .before .before .before .loop-test .taken) in
+    let low = way-lower b h (v .whole) (v .way) (c .before .before .before .before .before .loop .next) way l in
+    let q : c .before .before .before .part-of .result < h .concepts = omega (arith, c .before .before .before .part-of .ensures, low, big .0) in
+    (s .pre .0, (way-role b h (v .whole) (v .way) way, (omega (arith, own .2, c .before .before .before .before .before .loop .inv .2), omega (arith, q, big .2))))
 
 add-next : tie.Need-add-next Inv-loop μ-loop
 add-next c = search needs
@@ -40,7 +74,20 @@ loop-less : tie.Need-loop-less Inv-loop μ-loop
 loop-less c = omega arith
 
 loop-again : tie.Need-loop-again Inv-loop μ-loop
-loop-again c = let s = c .before .before .before .before .before .before .before .before .before .before .before .before .before .before in let b = s .args .book .now in let h = s .args .counts in let v = s .args .left in let way = s .pre .1 .0 in let big = s .pre .1 .1 .0 in let own = s .pre .1 .1 .1 in let i = c .before .before .before .before .before .before .before .before .loop .next in let l : c .before .before .before .before .before .before .before .before .loop .next < countOf (v .way) = omega (arith, own .0, c .before .before .before .before .before .before .before .loop-test .taken) in let low = way-lower b h (v .whole) (v .way) (c .before .before .before .before .before .before .before .before .loop .next) way l in let q : c .before .before .before .before .before .before .part-of .result < h .concepts = omega (arith, c .before .before .before .before .before .before .part-of .ensures, low, big .0) in let w = c .before .before .before .before .before .before .before .before .loop .inv in (omega arith, omega (arith, w .1), c .before .before .give .ensures .0 ∙ w .2, λ g m. passed-more b h (s .args .t .now) g (s .args .acc .now) (c .before .before .before .before .before .before .before .before .loop .acc) _ v i (c .before .before .before .before .before .before .part-of .result) m q (sym (c .before .before .before .before .before .is-done .ensures) ∙ c .before .before .before .before .if1 .taken) l (c .before .before .before .before .before .before .part-of .ensures) (c .before .before .give .ensures .1) (w .3 g m))
+loop-again c =
+    let s = c .before .before .before .before .before .before .before .before .before .before .before .before .before .before in
+    let b = s .args .book .now in
+    let h = s .args .counts in
+    let v = s .args .left in
+    let way = s .pre .1 .0 in
+    let big = s .pre .1 .1 .0 in
+    let own = s .pre .1 .1 .1 in
+    let i = c .before .before .before .before .before .before .before .before .loop .next in
+    let l : c .before .before .before .before .before .before .before .before .loop .next < countOf (v .way) = omega (arith, own .0, c .before .before .before .before .before .before .before .loop-test .taken) in
+    let low = way-lower b h (v .whole) (v .way) (c .before .before .before .before .before .before .before .before .loop .next) way l in
+    let q : c .before .before .before .before .before .before .part-of .result < h .concepts = omega (arith, c .before .before .before .before .before .before .part-of .ensures, low, big .0) in
+    let w = c .before .before .before .before .before .before .before .before .loop .inv in
+    (omega arith, omega (arith, w .1), c .before .before .give .ensures .0 ∙ w .2, λ g m. passed-more b h (s .args .t .now) g (s .args .acc .now) (c .before .before .before .before .before .before .before .before .loop .acc) _ v i (c .before .before .before .before .before .before .part-of .result) m q (sym (c .before .before .before .before .before .is-done .ensures) ∙ c .before .before .before .before .if1 .taken) l (c .before .before .before .before .before .before .part-of .ensures) (c .before .before .give .ensures .1) (w .3 g m))
 
 same-length : tie.Need-same-length Inv-loop μ-loop
 same-length c = c .before .before .before .before .loop .inv .2

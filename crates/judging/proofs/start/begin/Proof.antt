@@ -44,10 +44,26 @@ cast-row-of : tie.Need-cast-row-of
 cast-row-of c = search needs
 
 row-of-requires : tie.Need-row-of-requires
-row-of-requires c κs = let s = c .before .before .before .before .before .before .before .before .before in let h = s .args .counts in let k = s .pre .0 .table in let e = c .before .before .before .before .before .size-of .ensures in let x = c .before .before .before .expr .given in let w = subst (StartIn h) (x .1) (s .pre .1 .0) in let q : c .class-field .result ≡ 2 * h .roles + 2 - 1 = rw e at (c .class-field .ensures) in rw e (k .sized, omega (arith, q), omega (arith, w, k .sized .classes))
+row-of-requires c κs =
+    let s = c .before .before .before .before .before .before .before .before .before in
+    let h = s .args .counts in
+    let k = s .pre .0 .table in
+    let e = c .before .before .before .before .before .size-of .ensures in
+    let x = c .before .before .before .expr .given in
+    let w = subst (StartIn h) (x .1) (s .pre .1 .0) in
+    let q : c .class-field .result ≡ 2 * h .roles + 2 - 1 = rw e at (c .class-field .ensures) in
+    rw e (k .sized, omega (arith, q), omega (arith, w, k .sized .classes))
 
 gather-requires : tie.Need-gather-requires
-gather-requires c κs = let s = c .before .before .before .before .before .before .before .before .before .before in let h = s .args .counts in let k = s .pre .0 .table in let e = c .before .before .before .before .before .before .size-of .ensures in let x = c .before .before .before .before .expr .given in let w = subst (StartIn h) (x .1) (s .pre .1 .0) in let q : c .row-of .result ≡ base (sizeOf h) (2 * h .roles + 2 - 1) + x .0 .0 = rw (rw e at (c .before .class-field .ensures), e) at (c .row-of .ensures .0) in (omega arith, omega (arith, q, class-room h k (x .0 .0) w))
+gather-requires c κs =
+    let s = c .before .before .before .before .before .before .before .before .before .before in
+    let h = s .args .counts in
+    let k = s .pre .0 .table in
+    let e = c .before .before .before .before .before .before .size-of .ensures in
+    let x = c .before .before .before .before .expr .given in
+    let w = subst (StartIn h) (x .1) (s .pre .1 .0) in
+    let q : c .row-of .result ≡ base (sizeOf h) (2 * h .roles + 2 - 1) + x .0 .0 = rw (rw e at (c .before .class-field .ensures), e) at (c .row-of .ensures .0) in
+    (omega arith, omega (arith, q, class-room h k (x .0 .0) w))
 
 enum-known-expr-2 : tie.Need-enum-known-expr-2
 enum-known-expr-2 c = search needs
@@ -56,7 +72,14 @@ cast-fellows : tie.Need-cast-fellows
 cast-fellows c = search needs
 
 fellows-requires : tie.Need-fellows-requires
-fellows-requires c κs = let s = c .before .before .before .before .before .before .before .before in let h = s .args .counts in let k = s .pre .0 .table in let e = c .before .before .before .before .size-of .ensures in let x = c .before .before .expr2 .given in let w = subst (StartIn h) (x .1) (s .pre .1 .0) in rw e (omega arith, omega (arith, s .pre .0 .groups), omega (arith, w, few h k), few h k)
+fellows-requires c κs =
+    let s = c .before .before .before .before .before .before .before .before in
+    let h = s .args .counts in
+    let k = s .pre .0 .table in
+    let e = c .before .before .before .before .size-of .ensures in
+    let x = c .before .before .expr2 .given in
+    let w = subst (StartIn h) (x .1) (s .pre .1 .0) in
+    rw e (omega arith, omega (arith, s .pre .0 .groups), omega (arith, w, few h k), few h k)
 
 enum-known-expr-3 : tie.Need-enum-known-expr-3
 enum-known-expr-3 c = search needs
@@ -65,10 +88,25 @@ field-of-requires : tie.Need-field-of-requires
 field-of-requires c κs = search needs
 
 rows-of-requires : tie.Need-rows-of-requires
-rows-of-requires c κs = let s = c .before .before .before .before .before .before .before .before .before in let h = s .args .counts in let k = s .pre .0 .table in let e = c .before .before .before .before .before .size-of .ensures in let x = c .before .before .before .expr3 .given in let w = subst (StartIn h) (x .1) (s .pre .1 .0) in rw e (k .sized, omega (arith, c .field-of .ensures, field-lt h k (x .0 .0) w))
+rows-of-requires c κs =
+    let s = c .before .before .before .before .before .before .before .before .before in
+    let h = s .args .counts in
+    let k = s .pre .0 .table in
+    let e = c .before .before .before .before .before .size-of .ensures in
+    let x = c .before .before .before .expr3 .given in
+    let w = subst (StartIn h) (x .1) (s .pre .1 .0) in
+    rw e (k .sized, omega (arith, c .field-of .ensures, field-lt h k (x .0 .0) w))
 
 selves-requires : tie.Need-selves-requires
-selves-requires c κs = let s = c .before .before .before .before .before .before .before .before .before .before in let h = s .args .counts in let k = s .pre .0 .table in let e = c .before .before .before .before .before .before .size-of .ensures in let x = c .before .before .before .before .expr3 .given in let w = subst (StartIn h) (x .1) (s .pre .1 .0) in let q : c .rows-of .result ≡ base (sizeOf h) (fieldOf (x .0 .0)) = rw (e, c .before .field-of .ensures) at (c .rows-of .ensures .0) in rw e (omega arith, omega (arith, q, field-room h k (fieldOf (x .0 .0)) (omega (arith, field-lt h k (x .0 .0) w))), few h k, omega (arith, c .rows-of .ensures .1))
+selves-requires c κs =
+    let s = c .before .before .before .before .before .before .before .before .before .before in
+    let h = s .args .counts in
+    let k = s .pre .0 .table in
+    let e = c .before .before .before .before .before .before .size-of .ensures in
+    let x = c .before .before .before .before .expr3 .given in
+    let w = subst (StartIn h) (x .1) (s .pre .1 .0) in
+    let q : c .rows-of .result ≡ base (sizeOf h) (fieldOf (x .0 .0)) = rw (e, c .before .field-of .ensures) at (c .rows-of .ensures .0) in
+    rw e (omega arith, omega (arith, q, field-room h k (fieldOf (x .0 .0)) (omega (arith, field-lt h k (x .0 .0) w))), few h k, omega (arith, c .rows-of .ensures .1))
 
 enum-told-3 : tie.Need-enum-told-3
 enum-told-3 c = search needs
@@ -107,19 +145,41 @@ same-length-2 : tie.Need-same-length-2
 same-length-2 c = search needs
 
 returns-3 : tie.Need-returns-3
-returns-3 c = let s = c .before .before .before .before .before .before .before .before .before .before .before .before .before in let h = s .args .counts in let k = s .pre .0 .table in let e = c .before .before .before .before .before .before .before .before .before .size-of .ensures in let x = c .before .before .before .before .before .before .before .expr .given in let w = subst (StartIn h) (x .1) (s .pre .1 .0) in (c .before .before .gather .ensures .len, started-class h k (s .args .groups .now) (s .args .acc .now) (s .pre .1 .1 .0) (x .0 .0) (x .1) w (rw (rw (rw e at (c .before .before .before .before .class-field .ensures), e) at (c .before .before .before .row-of .ensures .0)) at (c .before .before .gather .ensures)))
+returns-3 c =
+    let s = c .before .before .before .before .before .before .before .before .before .before .before .before .before in
+    let h = s .args .counts in
+    let k = s .pre .0 .table in
+    let e = c .before .before .before .before .before .before .before .before .before .size-of .ensures in
+    let x = c .before .before .before .before .before .before .before .expr .given in
+    let w = subst (StartIn h) (x .1) (s .pre .1 .0) in
+    (c .before .before .gather .ensures .len, started-class h k (s .args .groups .now) (s .args .acc .now) (s .pre .1 .1 .0) (x .0 .0) (x .1) w (rw (rw (rw e at (c .before .before .before .before .class-field .ensures), e) at (c .before .before .before .row-of .ensures .0)) at (c .before .before .gather .ensures)))
 
 same-length-3 : tie.Need-same-length-3
 same-length-3 c = search needs
 
 returns-4 : tie.Need-returns-4
-returns-4 c = let s = c .before .before .before .before .before .before .before .before .before .before .before in let h = s .args .counts in let k = s .pre .0 .table in let e = c .before .before .before .before .before .before .before .size-of .ensures in let x = c .before .before .before .before .before .expr2 .given in let w = subst (StartIn h) (x .1) (s .pre .1 .0) in (c .before .before .fellows .ensures .len, started-group h k (s .args .groups .now) (s .args .acc .now) (s .pre .1 .1 .0) (x .0 .0) (x .1) (rw e at (c .before .before .fellows .ensures)))
+returns-4 c =
+    let s = c .before .before .before .before .before .before .before .before .before .before .before in
+    let h = s .args .counts in
+    let k = s .pre .0 .table in
+    let e = c .before .before .before .before .before .before .before .size-of .ensures in
+    let x = c .before .before .before .before .before .expr2 .given in
+    let w = subst (StartIn h) (x .1) (s .pre .1 .0) in
+    (c .before .before .fellows .ensures .len, started-group h k (s .args .groups .now) (s .args .acc .now) (s .pre .1 .1 .0) (x .0 .0) (x .1) (rw e at (c .before .before .fellows .ensures)))
 
 same-length-4 : tie.Need-same-length-4
 same-length-4 c = search needs
 
 returns-5 : tie.Need-returns-5
-returns-5 c = let s = c .before .before .before .before .before .before .before .before .before .before .before .before .before in let h = s .args .counts in let k = s .pre .0 .table in let e = c .before .before .before .before .before .before .before .before .before .size-of .ensures in let x = c .before .before .before .before .before .before .before .expr3 .given in let w = subst (StartIn h) (x .1) (s .pre .1 .0) in let q : c .before .before .before .rows-of .result ≡ base (sizeOf h) (fieldOf (x .0 .0)) = rw (e, c .before .before .before .before .field-of .ensures) at (c .before .before .before .rows-of .ensures .0) in (c .before .before .selves .ensures .len, started-self h k (s .args .groups .now) (s .args .acc .now) (s .pre .1 .1 .0) (x .0 .0) (x .1) w (rw (q, e) at (c .before .before .selves .ensures)))
+returns-5 c =
+    let s = c .before .before .before .before .before .before .before .before .before .before .before .before .before in
+    let h = s .args .counts in
+    let k = s .pre .0 .table in
+    let e = c .before .before .before .before .before .before .before .before .before .size-of .ensures in
+    let x = c .before .before .before .before .before .before .before .expr3 .given in
+    let w = subst (StartIn h) (x .1) (s .pre .1 .0) in
+    let q : c .before .before .before .rows-of .result ≡ base (sizeOf h) (fieldOf (x .0 .0)) = rw (e, c .before .before .before .before .field-of .ensures) at (c .before .before .before .rows-of .ensures .0) in
+    (c .before .before .selves .ensures .len, started-self h k (s .args .groups .now) (s .args .acc .now) (s .pre .1 .1 .0) (x .0 .0) (x .1) w (rw (q, e) at (c .before .before .selves .ensures)))
 
 returns-6 : tie.Need-returns-6
 returns-6 c = let s = c .before .before .before .before .before .before in let h = s .args .counts in let k = s .pre .0 .table in (refl, started-none h k (s .args .groups .now) (s .args .acc .now) (s .pre .1 .1 .0) (Not (c .enum-told3 .given .0 .0)) (c .enum-told3 .given .1) (λ i. refl))
@@ -128,7 +188,11 @@ same-length-5 : tie.Need-same-length-5
 same-length-5 c = search needs
 
 returns-7 : tie.Need-returns-7
-returns-7 c = let s = c .before .before .before .before .before .before .before .before .before .before in let h = s .args .counts in let k = s .pre .0 .table in (c .before .before .fill2 .ensures .len, started-every h k (s .args .groups .now) (s .args .acc .now) (s .pre .1 .1 .0) (And (c .before .before .before .before .enum-told4 .given .0 .0)) (c .before .before .before .before .enum-told4 .given .1) (λ i. refl) (c .before .before .fill2 .ensures))
+returns-7 c =
+    let s = c .before .before .before .before .before .before .before .before .before .before in
+    let h = s .args .counts in
+    let k = s .pre .0 .table in
+    (c .before .before .fill2 .ensures .len, started-every h k (s .args .groups .now) (s .args .acc .now) (s .pre .1 .1 .0) (And (c .before .before .before .before .enum-told4 .given .0 .0)) (c .before .before .before .before .enum-told4 .given .1) (λ i. refl) (c .before .before .fill2 .ensures))
 
 returns-8 : tie.Need-returns-8
 returns-8 c = let s = c .before .before .before .before .before .before in let h = s .args .counts in let k = s .pre .0 .table in (refl, started-none h k (s .args .groups .now) (s .args .acc .now) (s .pre .1 .1 .0) (Or (c .enum-told5 .given .0 .0)) (c .enum-told5 .given .1) (λ i. refl))

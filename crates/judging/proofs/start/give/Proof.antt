@@ -34,10 +34,25 @@ flip-requires : tie.Need-flip-requires
 flip-requires c κs = let s = c .before .before .before .before .before .before .before .before .before in let h = s .args .counts in let k = s .pre .0 in let x = c .before .before .before .way .given in let r = subst (RoleIn h) (x .1) (s .pre .1 .0) in omega (arith, c .field-of .ensures, field-lt h k (x .0 .0) r, k .sized .few)
 
 rows-of-requires : tie.Need-rows-of-requires
-rows-of-requires c κs = let s = c .before .before .before .before .before .before .before .before .before .before in let h = s .args .counts in let k = s .pre .0 in let e = c .before .before .before .before .before .before .size-of .ensures in let x = c .before .before .before .before .way .given in let r = subst (RoleIn h) (x .1) (s .pre .1 .0) in rw e (k .sized, omega (arith, c .flip .ensures, c .before .field-of .ensures, flip-lt h k (x .0 .0) r))
+rows-of-requires c κs =
+    let s = c .before .before .before .before .before .before .before .before .before .before in
+    let h = s .args .counts in
+    let k = s .pre .0 in
+    let e = c .before .before .before .before .before .before .size-of .ensures in
+    let x = c .before .before .before .before .way .given in
+    let r = subst (RoleIn h) (x .1) (s .pre .1 .0) in
+    rw e (k .sized, omega (arith, c .flip .ensures, c .before .field-of .ensures, flip-lt h k (x .0 .0) r))
 
 compose-requires : tie.Need-compose-requires
-compose-requires c κs = let s = c .before .before .before .before .before .before .before .before .before .before .before in let h = s .args .counts in let k = s .pre .0 in let e = c .before .before .before .before .before .before .before .size-of .ensures in let x = c .before .before .before .before .before .way .given in let r = subst (RoleIn h) (x .1) (s .pre .1 .0) in let q : c .rows-of .result ≡ base (sizeOf h) (flipped (fieldOf (x .0 .0))) = rw (e, c .before .flip .ensures, c .before .before .field-of .ensures) at (c .rows-of .ensures .0) in rw e (omega arith, omega arith, omega (arith, q, field-room h k (flipped (fieldOf (x .0 .0))) (omega (arith, flip-lt h k (x .0 .0) r))), few h k)
+compose-requires c κs =
+    let s = c .before .before .before .before .before .before .before .before .before .before .before in
+    let h = s .args .counts in
+    let k = s .pre .0 in
+    let e = c .before .before .before .before .before .before .before .size-of .ensures in
+    let x = c .before .before .before .before .before .way .given in
+    let r = subst (RoleIn h) (x .1) (s .pre .1 .0) in
+    let q : c .rows-of .result ≡ base (sizeOf h) (flipped (fieldOf (x .0 .0))) = rw (e, c .before .flip .ensures, c .before .before .field-of .ensures) at (c .rows-of .ensures .0) in
+    rw e (omega arith, omega arith, omega (arith, q, field-room h k (flipped (fieldOf (x .0 .0))) (omega (arith, flip-lt h k (x .0 .0) r))), few h k)
 
 enum-told-2 : tie.Need-enum-told-2
 enum-told-2 c = search needs
@@ -58,7 +73,15 @@ same-length : tie.Need-same-length
 same-length c = search needs
 
 returns-2 : tie.Need-returns-2
-returns-2 c = let s = c .before .before .before .before .before .before .before .before .before .before .before .before .before .before in let h = s .args .counts in let k = s .pre .0 in let e = c .before .before .before .before .before .before .before .before .before .before .size-of .ensures in let x = c .before .before .before .before .before .before .before .before .way .given in let r = subst (RoleIn h) (x .1) (s .pre .1 .0) in let q : c .before .before .before .rows-of .result ≡ base (sizeOf h) (flipped (fieldOf (x .0 .0))) = rw (e, c .before .before .before .before .flip .ensures, c .before .before .before .before .before .field-of .ensures) at (c .before .before .before .rows-of .ensures .0) in (c .before .before .compose .ensures .len, gave-inner h k (s .args .way) (s .args .rows .now) (s .args .p) (s .args .acc .now) (x .0 .0) _ _ (x .1) r (rw (q, e) at (c .before .before .compose .ensures)))
+returns-2 c =
+    let s = c .before .before .before .before .before .before .before .before .before .before .before .before .before .before in
+    let h = s .args .counts in
+    let k = s .pre .0 in
+    let e = c .before .before .before .before .before .before .before .before .before .before .size-of .ensures in
+    let x = c .before .before .before .before .before .before .before .before .way .given in
+    let r = subst (RoleIn h) (x .1) (s .pre .1 .0) in
+    let q : c .before .before .before .rows-of .result ≡ base (sizeOf h) (flipped (fieldOf (x .0 .0))) = rw (e, c .before .before .before .before .flip .ensures, c .before .before .before .before .before .field-of .ensures) at (c .before .before .before .rows-of .ensures .0) in
+    (c .before .before .compose .ensures .len, gave-inner h k (s .args .way) (s .args .rows .now) (s .args .p) (s .args .acc .now) (x .0 .0) _ _ (x .1) r (rw (q, e) at (c .before .before .compose .ensures)))
 
 same-length-2 : tie.Need-same-length-2
 same-length-2 c = search needs

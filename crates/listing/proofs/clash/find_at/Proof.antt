@@ -32,7 +32,10 @@ find-other-requires : tie.Need-find-other-requires Inv-loop μ-loop
 find-other-requires c κs = let p = c .before .before .before .before .before .before .before .pre in (p .0, p .1, p .2, c .loop-test .taken)
 
 returns : tie.Need-returns Inv-loop μ-loop
-returns c = let s = c .before .before .before .before .before .before .before .before .before in let l = c .before .before .loop-test .taken in pair-found (s .args .size) (s .args .t .now) (s .args .pairs .now) (s .args .x) (rw (c .before .before .before .before .before .before .type-field .ensures) at (c .before .before .before .before .before .row-of .ensures .0)) (s .pre .2) l (c .before .before .before .loop .inv .0 l) (c .before .find-other .ensures) (c .if1 .taken)
+returns c =
+    let s = c .before .before .before .before .before .before .before .before .before in
+    let l = c .before .before .loop-test .taken in
+    pair-found (s .args .size) (s .args .t .now) (s .args .pairs .now) (s .args .x) (rw (c .before .before .before .before .before .before .type-field .ensures) at (c .before .before .before .before .before .row-of .ensures .0)) (s .pre .2) l (c .before .before .before .loop .inv .0 l) (c .before .find-other .ensures) (c .if1 .taken)
 
 add-next : tie.Need-add-next Inv-loop μ-loop
 add-next c = search needs
@@ -44,7 +47,9 @@ loop-less : tie.Need-loop-less Inv-loop μ-loop
 loop-less c = omega (arith, c .next2 .ensures .ge)
 
 loop-again : tie.Need-loop-again Inv-loop μ-loop
-loop-again c = let s = c .before .before .before .before .before .before .before .before .before .before in (c .next2 .ensures .hit, none-again (s .args .size) (s .args .t .now) (s .args .pairs .now) (s .args .x) (rw (c .before .before .before .before .before .before .before .type-field .ensures) at (c .before .before .before .before .before .before .row-of .ensures .0)) (c .before .before .before .before .loop .inv .1) (c .before .before .find-other .ensures) (c .before .if1 .left) (c .next2 .ensures))
+loop-again c =
+    let s = c .before .before .before .before .before .before .before .before .before .before in
+    (c .next2 .ensures .hit, none-again (s .args .size) (s .args .t .now) (s .args .pairs .now) (s .args .x) (rw (c .before .before .before .before .before .before .before .type-field .ensures) at (c .before .before .before .before .before .before .row-of .ensures .0)) (c .before .before .before .before .loop .inv .1) (c .before .before .find-other .ensures) (c .before .if1 .left) (c .next2 .ensures))
 
 returns-2 : tie.Need-returns-2 Inv-loop μ-loop
 returns-2 c = let s = c .before .before .before .before .before .before .before in pair-none (s .args .size) (s .args .t .now) (s .args .pairs .now) (s .args .x) (c .loop-test .left) (c .before .loop .inv .1)

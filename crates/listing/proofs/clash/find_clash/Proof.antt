@@ -31,7 +31,10 @@ loop-less : tie.Need-loop-less Inv-loop μ-loop
 loop-less c = omega (arith, c .before .before .before .before .if1 .taken)
 
 loop-again : tie.Need-loop-again Inv-loop μ-loop
-loop-again c = let s = c .before .before .before .before .before .before .before .before .before in let l = c .before .before .before .before .before .before .loop in (omega (arith, c .before .before .before .before .if1 .taken), below-more (λ y. Apart (s .args .size) (s .args .t .now) (s .args .pairs .now) y) (l .x) (l .inv .1) (c .before .before .before .find-at .ensures .none-at (c .if2 .left)))
+loop-again c =
+    let s = c .before .before .before .before .before .before .before .before .before in
+    let l = c .before .before .before .before .before .before .loop in
+    (omega (arith, c .before .before .before .before .if1 .taken), below-more (λ y. Apart (s .args .size) (s .args .t .now) (s .args .pairs .now) y) (l .x) (l .inv .1) (c .before .before .before .find-at .ensures .none-at (c .if2 .left)))
 
 returns-2 : tie.Need-returns-2 Inv-loop μ-loop
 returns-2 c = let l = c .before .before .loop in record { two = λ i. absurd (omega arith); none-at = λ i y m. l .inv .1 y (omega (arith, c .if1 .left, m)) }

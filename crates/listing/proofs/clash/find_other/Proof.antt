@@ -32,7 +32,10 @@ member-requires : tie.Need-member-requires Inv-loop μ-loop
 member-requires c κs = let s = c .before .before .before .before .before .before .before in let p = s .pre in (type-room (p .0) (s .args .x) (p .2) (rw (c .before .before .before .before .type-field .ensures) at (c .before .before .before .row-of .ensures .0)), omega (arith, c .loop-test .taken, p .0 .sized .classes))
 
 returns : tie.Need-returns Inv-loop μ-loop
-returns c = let s = c .before .before .before .before .before .before .before .before .before in let l = c .before .before .loop-test .taken in partner-found (s .args .size) (s .args .t .now) (s .args .pairs .now) (s .args .x) (s .args .a) (rw (c .before .before .before .before .before .before .type-field .ensures) at (c .before .before .before .before .before .row-of .ensures .0)) l (c .before .before .before .loop .inv .0 l) (sym (c .before .member .ensures) ∙ c .if1 .taken)
+returns c =
+    let s = c .before .before .before .before .before .before .before .before .before in
+    let l = c .before .before .loop-test .taken in
+    partner-found (s .args .size) (s .args .t .now) (s .args .pairs .now) (s .args .x) (s .args .a) (rw (c .before .before .before .before .before .before .type-field .ensures) at (c .before .before .before .before .before .row-of .ensures .0)) l (c .before .before .before .loop .inv .0 l) (sym (c .before .member .ensures) ∙ c .if1 .taken)
 
 add-next : tie.Need-add-next Inv-loop μ-loop
 add-next c = search needs
@@ -44,7 +47,9 @@ loop-less : tie.Need-loop-less Inv-loop μ-loop
 loop-less c = omega (arith, c .next2 .ensures .ge)
 
 loop-again : tie.Need-loop-again Inv-loop μ-loop
-loop-again c = let s = c .before .before .before .before .before .before .before .before .before .before in (c .next2 .ensures .hit, alone-again (s .args .size) (s .args .t .now) (s .args .pairs .now) (s .args .x) (s .args .a) (rw (c .before .before .before .before .before .before .before .type-field .ensures) at (c .before .before .before .before .before .before .row-of .ensures .0)) (c .before .before .before .before .loop .inv .1) (sym (c .before .before .member .ensures) ∙ c .before .if1 .left) (c .next2 .ensures))
+loop-again c =
+    let s = c .before .before .before .before .before .before .before .before .before .before in
+    (c .next2 .ensures .hit, alone-again (s .args .size) (s .args .t .now) (s .args .pairs .now) (s .args .x) (s .args .a) (rw (c .before .before .before .before .before .before .before .type-field .ensures) at (c .before .before .before .before .before .before .row-of .ensures .0)) (c .before .before .before .before .loop .inv .1) (sym (c .before .before .member .ensures) ∙ c .before .if1 .left) (c .next2 .ensures))
 
 returns-2 : tie.Need-returns-2 Inv-loop μ-loop
 returns-2 c = let s = c .before .before .before .before .before .before .before in partner-none (s .args .size) (s .args .t .now) (s .args .pairs .now) (s .args .x) (s .args .a) (c .loop-test .left) (c .before .loop .inv .1)

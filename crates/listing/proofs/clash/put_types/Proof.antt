@@ -20,13 +20,23 @@ number-of-requires : tie.Need-number-of-requires
 number-of-requires c κs = let p = c .before .before .before .before .before .before .before .before .before .before .pre in let w = p .0 in let y = p .1 .1 .1 in let k = w .table in rw (c .before .before .type-field .ensures, c .before .before .before .size-of .ensures) (listed-sized w, type-can k _ _ (y .0 .at) (y .0 .one))
 
 place-of-requires : tie.Need-place-of-requires
-place-of-requires c κs = let p = c .before .before .before .before .before .before .before .before .before .before .before .pre in let w = p .0 in let y = p .1 .1 .1 in let k = w .table in rw (c .number-of .ensures, c .before .before .before .type-field .ensures, c .before .before .before .before .size-of .ensures) ((listed-limits w, listed-room w, listed-number w _ _ _ (type-can k _ _ (y .0 .at) (y .0 .one))), listed-place w _ _ _ (type-can k _ _ (y .0 .at) (y .0 .one)) (y .0 .has-one))
+place-of-requires c κs =
+    let p = c .before .before .before .before .before .before .before .before .before .before .before .pre in
+    let w = p .0 in
+    let y = p .1 .1 .1 in
+    let k = w .table in
+    rw (c .number-of .ensures, c .before .before .before .type-field .ensures, c .before .before .before .before .size-of .ensures) ((listed-limits w, listed-room w, listed-number w _ _ _ (type-can k _ _ (y .0 .at) (y .0 .one))), listed-place w _ _ _ (type-can k _ _ (y .0 .at) (y .0 .one)) (y .0 .has-one))
 
 number-of-requires-2 : tie.Need-number-of-requires-2
 number-of-requires-2 c κs = let p = c .before .before .before .before .before .before .before .before .before .before .before .before .before .pre in let w = p .0 in let y = p .1 .1 .1 in let k = w .table in rw (c .before .before .before .before .type-field2 .ensures, c .before .before .before .before .before .before .size-of .ensures) (listed-sized w, type-can k _ _ (y .0 .at) (y .1))
 
 place-of-requires-2 : tie.Need-place-of-requires-2
-place-of-requires-2 c κs = let p = c .before .before .before .before .before .before .before .before .before .before .before .before .before .before .pre in let w = p .0 in let y = p .1 .1 .1 in let k = w .table in rw (c .number-of2 .ensures, c .before .before .before .before .before .type-field2 .ensures, c .before .before .before .before .before .before .before .size-of .ensures) ((listed-limits w, listed-room w, listed-number w _ _ _ (type-can k _ _ (y .0 .at) (y .1))), listed-place w _ _ _ (type-can k _ _ (y .0 .at) (y .1)) (y .0 .has-other))
+place-of-requires-2 c κs =
+    let p = c .before .before .before .before .before .before .before .before .before .before .before .before .before .before .pre in
+    let w = p .0 in
+    let y = p .1 .1 .1 in
+    let k = w .table in
+    rw (c .number-of2 .ensures, c .before .before .before .before .before .type-field2 .ensures, c .before .before .before .before .before .before .before .size-of .ensures) ((listed-limits w, listed-room w, listed-number w _ _ _ (type-can k _ _ (y .0 .at) (y .1))), listed-place w _ _ _ (type-can k _ _ (y .0 .at) (y .1)) (y .0 .has-other))
 
 put-row-requires : tie.Need-put-row-requires
 put-row-requires c κs = c .before .before .before .before .before .before .before .before .before .before .before .before .before .before .before .before .pre .1 .1 .0 .1

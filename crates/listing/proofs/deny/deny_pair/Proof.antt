@@ -41,13 +41,22 @@ returns-2 : tie.Need-returns-2
 returns-2 c = let p = c .before .before .before .before .before .before .before .before .before .before .before .before .pre in let q = p .1 .1 in let e = rw (c .before .before .before .size-of .ensures) at (c .before .before .class-row .ensures .0) in pair-quiet (p .0) _ _ (q .1) (q .2) (rw e at (c .before .member .ensures)) (c .if2 .taken)
 
 pair-place-requires : tie.Need-pair-place-requires
-pair-place-requires c κs = let p = c .before .before .before .before .before .before .before .before .before .before .before .before .before .pre in let q = p .1 .1 in let e = rw (c .before .before .before .before .size-of .ensures) at (c .before .before .before .class-row .ensures .0) in (p .0, (c .if3 .taken, q .2, passes (rw e at (c .before .before .member .ensures)) (c .before .if2 .left), labels-apart _ _ (p .1 .0) (q .1) (q .2) (c .before .before .before .before .before .if1 .left)))
+pair-place-requires c κs =
+    let p = c .before .before .before .before .before .before .before .before .before .before .before .before .before .pre in
+    let q = p .1 .1 in
+    let e = rw (c .before .before .before .before .size-of .ensures) at (c .before .before .before .class-row .ensures .0) in
+    (p .0, (c .if3 .taken, q .2, passes (rw e at (c .before .before .member .ensures)) (c .before .if2 .left), labels-apart _ _ (p .1 .0) (q .1) (q .2) (c .before .before .before .before .before .if1 .left)))
 
 returns-3 : tie.Need-returns-3
 returns-3 c = pair-up (c .before .before .before .before .before .before .before .before .before .before .before .before .before .before .pre .0) _ _ _ (c .pair-place .ensures)
 
 pair-place-requires-2 : tie.Need-pair-place-requires-2
-pair-place-requires-2 c κs = let p = c .before .before .before .before .before .before .before .before .before .before .before .before .before .pre in let q = p .1 .1 in let e = rw (c .before .before .before .before .size-of .ensures) at (c .before .before .before .class-row .ensures .0) in let d = c .before .before .before .before .before .if1 .left in (p .0, (apart-up _ _ _ (labels-apart _ _ (p .1 .0) (q .1) (q .2) d) (c .if3 .left), q .1, p .0 .turn _ _ (q .1) (q .2) (passes (rw e at (c .before .before .member .ensures)) (c .before .if2 .left)), labels-apart _ _ (p .1 .0) (q .2) (q .1) (λ e. d (sym e))))
+pair-place-requires-2 c κs =
+    let p = c .before .before .before .before .before .before .before .before .before .before .before .before .before .pre in
+    let q = p .1 .1 in
+    let e = rw (c .before .before .before .before .size-of .ensures) at (c .before .before .before .class-row .ensures .0) in
+    let d = c .before .before .before .before .before .if1 .left in
+    (p .0, (apart-up _ _ _ (labels-apart _ _ (p .1 .0) (q .1) (q .2) d) (c .if3 .left), q .1, p .0 .turn _ _ (q .1) (q .2) (passes (rw e at (c .before .before .member .ensures)) (c .before .if2 .left)), labels-apart _ _ (p .1 .0) (q .2) (q .1) (λ e. d (sym e))))
 
 returns-4 : tie.Need-returns-4
 returns-4 c = pair-down (c .before .before .before .before .before .before .before .before .before .before .before .before .before .before .pre .0) _ _ _ (c .pair-place2 .ensures)

@@ -33,7 +33,9 @@ cast-t16 : tie.Need-cast-t16 Inv-loop μ-loop
 cast-t16 c = search needs
 
 returns : tie.Need-returns Inv-loop μ-loop
-returns c = let s = c .before .before .before .before .before .before .before .before .before .before .before .before in denier-found (s .args .book .now) (s .args .counts) (s .args .t .now) (s .args .n) (s .args .rows .now) (s .args .starts .now) (s .pre .1 .1 .0) (c .before .before .before .before .loop .k) (omega (arith, c .before .before .before .loop-test .taken)) (c .before .deny-at .ensures) (c .if1 .taken)
+returns c =
+    let s = c .before .before .before .before .before .before .before .before .before .before .before .before in
+    denier-found (s .args .book .now) (s .args .counts) (s .args .t .now) (s .args .n) (s .args .rows .now) (s .args .starts .now) (s .pre .1 .1 .0) (c .before .before .before .before .loop .k) (omega (arith, c .before .before .before .loop-test .taken)) (c .before .deny-at .ensures) (c .if1 .taken)
 
 add-k : tie.Need-add-k Inv-loop μ-loop
 add-k c = omega arith
@@ -42,7 +44,9 @@ loop-less : tie.Need-loop-less Inv-loop μ-loop
 loop-less c = omega arith
 
 loop-again : tie.Need-loop-again Inv-loop μ-loop
-loop-again c = let s = c .before .before .before .before .before .before .before .before .before .before .before .before in (omega arith, quiet-more (s .args .book .now) (s .args .counts) (s .args .t .now) (s .args .n) (s .args .rows .now) (s .args .starts .now) (s .pre .1 .1 .0) (c .before .before .before .before .loop .k) (omega (arith, c .before .before .before .loop-test .taken)) (c .before .deny-at .ensures) (c .if1 .left) (c .before .before .before .before .loop .inv .1))
+loop-again c =
+    let s = c .before .before .before .before .before .before .before .before .before .before .before .before in
+    (omega arith, quiet-more (s .args .book .now) (s .args .counts) (s .args .t .now) (s .args .n) (s .args .rows .now) (s .args .starts .now) (s .pre .1 .1 .0) (c .before .before .before .before .loop .k) (omega (arith, c .before .before .before .loop-test .taken)) (c .before .deny-at .ensures) (c .if1 .left) (c .before .before .before .before .loop .inv .1))
 
 returns-2 : tie.Need-returns-2 Inv-loop μ-loop
 returns-2 c = let s = c .before .before .before .before .before .before .before .before .before in denier-none (s .args .book .now) (s .args .counts) (s .args .t .now) (s .args .n) (s .args .rows .now) (s .args .starts .now) (s .pre .1 .1 .0) (c .before .loop .k) (omega arith) (c .before .loop .inv .1) (s .pre .1 .1 .1)

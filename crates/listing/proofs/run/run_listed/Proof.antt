@@ -35,7 +35,10 @@ same-length-4 : tie.Need-same-length-4
 same-length-4 c = search needs
 
 returns-2 : tie.Need-returns-2
-returns-2 c = let q = c .before .before .before .before .before .list-rows .ensures in let l = rw (c .before .before .before .before .before .before .before .before .before .entries-due .ensures) at (c .before .before .before .before .before .before .before .before .if1 .left) in record { refused = λ m. absurd (omega (arith, l)); listed = λ m. (rw (c .end-with .ensures, q .types) refl, q .listing) }
+returns-2 c =
+    let q = c .before .before .before .before .before .list-rows .ensures in
+    let l = rw (c .before .before .before .before .before .before .before .before .before .entries-due .ensures) at (c .before .before .before .before .before .before .before .before .if1 .left) in
+    record { refused = λ m. absurd (omega (arith, l)); listed = λ m. (rw (c .end-with .ensures, q .types) refl, q .listing) }
 
 pub run-listed-spec : {M : Type 1} → statement M
 run-listed-spec =

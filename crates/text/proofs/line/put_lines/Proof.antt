@@ -37,7 +37,11 @@ part-put-line-end : tie.Need-part-put-line-end Inv-loop μ-loop
 part-put-line-end c = let l = c .before .before in let a = l .before .before .before .before in let h = lined-within (length (a .args .list .now)) (a .args .w) (l .loop .k) (a .pre .0 .0) (l .loop .inv .1 .place) (c .before .loop-test .taken) in search needs
 
 put-line-requires : tie.Need-put-line-requires Inv-loop μ-loop
-put-line-requires c κs = let l = c .before .before .before in let a = l .before .before .before .before in let h = lined-within (length (a .args .list .now)) (a .args .w) (l .loop .k) (a .pre .0 .0) (l .loop .inv .1 .place) (c .before .before .loop-test .taken) in omega (arith, line-entries (a .args .list .now) (l .loop .from) (a .args .w) h, l .loop .inv .1 .room, l .loop .inv .1 .written .len, a .pre .0 .1)
+put-line-requires c κs =
+    let l = c .before .before .before in
+    let a = l .before .before .before .before in
+    let h = lined-within (length (a .args .list .now)) (a .args .w) (l .loop .k) (a .pre .0 .0) (l .loop .inv .1 .place) (c .before .before .loop-test .taken) in
+    omega (arith, line-entries (a .args .list .now) (l .loop .from) (a .args .w) h, l .loop .inv .1 .room, l .loop .inv .1 .written .len, a .pre .0 .1)
 
 add-k : tie.Need-add-k Inv-loop μ-loop
 add-k c = let a = c .before .before .before .before .before .before .before .before .before .before .args in omega (arith, div-le-self (length (a .list .now)) (a .w))
@@ -46,7 +50,12 @@ loop-less : tie.Need-loop-less Inv-loop μ-loop
 loop-less c = search needs
 
 loop-again : tie.Need-loop-again Inv-loop μ-loop
-loop-again c = let k = c .before .before in let l = k .before .before .before .before in let a = l .before .before .before .before in let h = lined-within (length (a .args .list .now)) (a .args .w) (l .loop .k) (a .pre .0 .0) (l .loop .inv .1 .place) (k .before .before .before .loop-test .taken) in (search needs, lined-more (l .loop .inv .1) (k .put-line .ensures .0) (omega (arith, k .put-line .ensures .1, a .pre .0 .1, line-entries (a .args .list .now) (l .loop .from) (a .args .w) h)))
+loop-again c =
+    let k = c .before .before in
+    let l = k .before .before .before .before in
+    let a = l .before .before .before .before in
+    let h = lined-within (length (a .args .list .now)) (a .args .w) (l .loop .k) (a .pre .0 .0) (l .loop .inv .1 .place) (k .before .before .before .loop-test .taken) in
+    (search needs, lined-more (l .loop .inv .1) (k .put-line .ensures .0) (omega (arith, k .put-line .ensures .1, a .pre .0 .1, line-entries (a .args .list .now) (l .loop .from) (a .args .w) h)))
 
 same-length : tie.Need-same-length Inv-loop μ-loop
 same-length c = c .before .loop .inv .1 .written .len

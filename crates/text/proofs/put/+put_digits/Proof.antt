@@ -132,7 +132,11 @@ put-digits-returns-3 : (t : ℕ) → put-digits-lts.Need-returns-3 (
   put-digits-below t,
   put-digits.Post,
 ) (put-digits-at t) put-digits.Post
-put-digits-returns-3 t c = let p = c .before .before in let q = p .before .before .before .before .before in let a = q .before .before .before .before .before .args in (digits-more (a .n) (a .k) (q .before .before .before .if1 .left) (q .before .before .if2 .left) (q .put-digits .ensures .0) (p .before .digit2 .ensures) (p .put-byte2 .ensures .0), omega (arith, q .put-digits .ensures .1, p .put-byte2 .ensures .1))
+put-digits-returns-3 t c =
+    let p = c .before .before in
+    let q = p .before .before .before .before .before in
+    let a = q .before .before .before .before .before .args in
+    (digits-more (a .n) (a .k) (q .before .before .before .if1 .left) (q .before .before .if2 .left) (q .put-digits .ensures .0) (p .before .digit2 .ensures) (p .put-byte2 .ensures .0), omega (arith, q .put-digits .ensures .1, p .put-byte2 .ensures .1))
 
 pub +put-digits-spec : {M : Type 1} → statement M
 +put-digits-spec = close μ-put-digits λ t. put-digits-lts.spec (

@@ -50,7 +50,10 @@ allot-add-allot : (t : ℕ) → allot-lts.Need-add-allot (claims t) (allot-at t)
 allot-add-allot t c = let w = c .before .before .before .before .before .before .before .wanted .ensures .last in omega arith
 
 allot-allot-requires : (t : ℕ) → allot-lts.Need-allot-requires (claims t) (allot-at t) allot.Post
-allot-allot-requires t c κs = let m = c .before .before .before .before .before .before .before .before .before .before .before .before .before .before .before .before .pre .0 in let w = c .before .before .before .before .before .before .before .wanted .ensures .last in (omega arith, c .before .before .before .before .before .before .before .before .before .before .before .before .before .before .before .before .pre .1)
+allot-allot-requires t c κs =
+    let m = c .before .before .before .before .before .before .before .before .before .before .before .before .before .before .before .before .pre .0 in
+    let w = c .before .before .before .before .before .before .before .wanted .ensures .last in
+    (omega arith, c .before .before .before .before .before .before .before .before .before .before .before .before .before .before .before .before .pre .1)
 
 allot-same-length : (t : ℕ) → allot-lts.Need-same-length (claims t) (allot-at t) allot.Post
 allot-same-length t c = search needs
@@ -74,7 +77,11 @@ allot-returns : (t : ℕ) → allot-lts.Need-returns (claims t) (allot-at t) all
 allot-returns t c = search needs
 
 allot-small-requires : (t : ℕ) → allot-lts.Need-small-requires (claims t) (allot-at t) allot.Post
-allot-small-requires t c κs = let p = c .before .before .before .before .before .before .before .before .before .before .before .before .before .before .before .before .before .pre .1 in let w = c .before .before .before .before .before .before .before .before .wanted .ensures in let e = c .before .before .before .before .before .before .if2 .taken in (p .0, (p .1 .0, (p .1 .1 .0, (p .1 .1 .1, (w .small e, w .tiny e)))))
+allot-small-requires t c κs =
+    let p = c .before .before .before .before .before .before .before .before .before .before .before .before .before .before .before .before .before .pre .1 in
+    let w = c .before .before .before .before .before .before .before .before .wanted .ensures in
+    let e = c .before .before .before .before .before .before .if2 .taken in
+    (p .0, (p .1 .0, (p .1 .1 .0, (p .1 .1 .1, (w .small e, w .tiny e)))))
 
 allot-same-length-7 : (t : ℕ) → allot-lts.Need-same-length-7 (claims t) (allot-at t) allot.Post
 allot-same-length-7 t c = search needs
@@ -98,7 +105,9 @@ allot-returns-2 : (t : ℕ) → allot-lts.Need-returns-2 (claims t) (allot-at t)
 allot-returns-2 t c = search needs
 
 allot-rows-in-cache-requires : (t : ℕ) → allot-lts.Need-rows-in-cache-requires (claims t) (allot-at t) allot.Post
-allot-rows-in-cache-requires t c κs = let p = c .before .before .before .before .before .before .before .before .before .before .before .before .before .before .before .before .before .before .pre .1 in (p .0, (p .1 .0, (p .1 .1 .0, (p .1 .1 .1, c .before .before .before .before .before .before .before .before .before .wanted .ensures .cache (c .before .before .before .before .before .before .if3 .taken)))))
+allot-rows-in-cache-requires t c κs =
+    let p = c .before .before .before .before .before .before .before .before .before .before .before .before .before .before .before .before .before .before .pre .1 in
+    (p .0, (p .1 .0, (p .1 .1 .0, (p .1 .1 .1, c .before .before .before .before .before .before .before .before .before .wanted .ensures .cache (c .before .before .before .before .before .before .if3 .taken)))))
 
 allot-same-length-13 : (t : ℕ) → allot-lts.Need-same-length-13 (claims t) (allot-at t) allot.Post
 allot-same-length-13 t c = search needs
@@ -122,7 +131,9 @@ allot-returns-3 : (t : ℕ) → allot-lts.Need-returns-3 (claims t) (allot-at t)
 allot-returns-3 t c = search needs
 
 allot-rows-of-some-requires : (t : ℕ) → allot-lts.Need-rows-of-some-requires (claims t) (allot-at t) allot.Post
-allot-rows-of-some-requires t c κs = let p = c .before .before .before .before .before .before .before .before .before .before .before .before .before .before .before .before .before .before .before .pre .1 in (p .0, (p .1 .0, (p .1 .1 .0, (p .1 .1 .1, c .before .before .before .before .before .before .before .before .before .before .wanted .ensures .some (c .before .before .before .before .before .before .if4 .taken)))))
+allot-rows-of-some-requires t c κs =
+    let p = c .before .before .before .before .before .before .before .before .before .before .before .before .before .before .before .before .before .before .before .pre .1 in
+    (p .0, (p .1 .0, (p .1 .1 .0, (p .1 .1 .1, c .before .before .before .before .before .before .before .before .before .before .wanted .ensures .some (c .before .before .before .before .before .before .if4 .taken)))))
 
 allot-same-length-19 : (t : ℕ) → allot-lts.Need-same-length-19 (claims t) (allot-at t) allot.Post
 allot-same-length-19 t c = search needs

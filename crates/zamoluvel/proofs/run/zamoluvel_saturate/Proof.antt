@@ -30,7 +30,10 @@ same-length-3 : tie.Need-same-length-3
 same-length-3 c = search needs
 
 returns : tie.Need-returns
-returns c = let e = c .before .before .before .before .before .before .before .before .before .before .saturate .ensures in let a = c .before .before .before .before .before .before .before .before .before .before .before .before .before .before .before .before .before .before .args in (c .code-of .ensures ∙ ap codeOf (e .0), (c .before .before .before .types-of .ensures ∙ ap typeCount (e .0), (c .before .before .edges-of .ensures ∙ ap edgeCount (e .0), (c .before .pairs-of .ensures ∙ ap pairCount (e .0), (e .1 .0, (e .1 .1 .0, (e .1 .1 .1 .0, demand (a .book .now) (a .budget) (a .types .now) (a .edges .now) (a .pairs .now))))))))
+returns c =
+    let e = c .before .before .before .before .before .before .before .before .before .before .saturate .ensures in
+    let a = c .before .before .before .before .before .before .before .before .before .before .before .before .before .before .before .before .before .before .args in
+    (c .code-of .ensures ∙ ap codeOf (e .0), (c .before .before .before .types-of .ensures ∙ ap typeCount (e .0), (c .before .before .edges-of .ensures ∙ ap edgeCount (e .0), (c .before .pairs-of .ensures ∙ ap pairCount (e .0), (e .1 .0, (e .1 .1 .0, (e .1 .1 .1 .0, demand (a .book .now) (a .budget) (a .types .now) (a .edges .now) (a .pairs .now))))))))
 
 pub zamoluvel-saturate-spec : {M : Type 1} → statement M
 zamoluvel-saturate-spec =

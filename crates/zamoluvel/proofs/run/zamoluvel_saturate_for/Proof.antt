@@ -31,7 +31,10 @@ same-length-3 : tie.Need-same-length-3
 same-length-3 c = search needs
 
 returns : tie.Need-returns
-returns c = let e = c .before .before .before .before .before .before .before .before .before .before .saturate-for .ensures in let a = c .before .before .before .before .before .before .before .before .before .before .before .before .before .before .before .before .before .before .before .args in (c .code-of .ensures ∙ ap codeOf (e .0), (c .before .before .before .types-of .ensures ∙ ap typeCount (e .0), (c .before .before .edges-of .ensures ∙ ap edgeCount (e .0), (c .before .pairs-of .ensures ∙ ap pairCount (e .0), (e .1 .0, (e .1 .1 .0, (e .1 .1 .1 .0, λ B d. demand-for (reader (a .reader) (a .table .now)) (a .book .now) B d (a .budget) (a .types .now) (a .edges .now) (a .pairs .now))))))))
+returns c =
+    let e = c .before .before .before .before .before .before .before .before .before .before .saturate-for .ensures in
+    let a = c .before .before .before .before .before .before .before .before .before .before .before .before .before .before .before .before .before .before .before .args in
+    (c .code-of .ensures ∙ ap codeOf (e .0), (c .before .before .before .types-of .ensures ∙ ap typeCount (e .0), (c .before .before .edges-of .ensures ∙ ap edgeCount (e .0), (c .before .pairs-of .ensures ∙ ap pairCount (e .0), (e .1 .0, (e .1 .1 .0, (e .1 .1 .1 .0, λ B d. demand-for (reader (a .reader) (a .table .now)) (a .book .now) B d (a .budget) (a .types .now) (a .edges .now) (a .pairs .now))))))))
 
 pub zamoluvel-saturate-for-spec : {M : Type 1} → statement M
 zamoluvel-saturate-for-spec =

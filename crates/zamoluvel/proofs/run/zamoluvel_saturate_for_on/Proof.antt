@@ -32,7 +32,10 @@ same-length-3 : tie.Need-same-length-3
 same-length-3 c = search needs
 
 returns : tie.Need-returns
-returns c = let e = c .before .before .before .before .before .before .before .before .before .before .before .saturate-for-on .ensures in let a = c .before .before .before .before .before .before .before .before .before .before .before .before .before .before .before .before .before .before .before .before .args in (c .code-of .ensures ∙ ap codeOf (e .0), (counts-are _ _ _ (e .0) (c .before .before .before .before .types-of .ensures) (c .before .before .before .edges-of .ensures) (c .before .before .pairs-of .ensures), (e .1 .0, (e .1 .1 .0, (e .1 .1 .1 .0, λ B d. demand-for (readerOn (a .reader) (a .table .now) (a .day)) (a .book .now) B d (a .budget) (a .types .now) (a .edges .now) (a .pairs .now))))))
+returns c =
+    let e = c .before .before .before .before .before .before .before .before .before .before .before .saturate-for-on .ensures in
+    let a = c .before .before .before .before .before .before .before .before .before .before .before .before .before .before .before .before .before .before .before .before .args in
+    (c .code-of .ensures ∙ ap codeOf (e .0), (counts-are _ _ _ (e .0) (c .before .before .before .before .types-of .ensures) (c .before .before .before .edges-of .ensures) (c .before .before .pairs-of .ensures), (e .1 .0, (e .1 .1 .0, (e .1 .1 .1 .0, λ B d. demand-for (readerOn (a .reader) (a .table .now) (a .day)) (a .book .now) B d (a .budget) (a .types .now) (a .edges .now) (a .pairs .now))))))
 
 pub zamoluvel-saturate-for-on-spec : {M : Type 1} → statement M
 zamoluvel-saturate-for-on-spec =

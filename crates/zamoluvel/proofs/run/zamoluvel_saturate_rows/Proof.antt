@@ -30,7 +30,11 @@ same-length-3 : tie.Need-same-length-3
 same-length-3 c = search needs
 
 returns : tie.Need-returns
-returns c = let e = c .before .before .before .before .before .before .before .before .before .before .saturate-rows .ensures in let o = e .outcome in let x = ap (λ (y : Ended). y .end) o in (c .code-of .ensures ∙ ap codeOf x, (c .before .before .before .types-of .ensures ∙ ap typeCount x, (c .before .before .edges-of .ensures ∙ ap edgeCount x, (c .before .pairs-of .ensures ∙ ap pairCount x, (ap (λ (y : Ended). y .types) o, (ap (λ (y : Ended). y .edges) o, rw x at (e .rows)))))))
+returns c =
+    let e = c .before .before .before .before .before .before .before .before .before .before .saturate-rows .ensures in
+    let o = e .outcome in
+    let x = ap (λ (y : Ended). y .end) o in
+    (c .code-of .ensures ∙ ap codeOf x, (c .before .before .before .types-of .ensures ∙ ap typeCount x, (c .before .before .edges-of .ensures ∙ ap edgeCount x, (c .before .pairs-of .ensures ∙ ap pairCount x, (ap (λ (y : Ended). y .types) o, (ap (λ (y : Ended). y .edges) o, rw x at (e .rows)))))))
 
 pub zamoluvel-saturate-rows-spec : {M : Type 1} → statement M
 zamoluvel-saturate-rows-spec =
