@@ -256,12 +256,16 @@ fn joins_beside() -> Book {
 /// them 3,000 chains over three roles that are dense on eight individuals, if there are to be any.
 fn odometer(n: u16, roles_in_turn: u16, subjects: u16, beside: bool) -> Book {
     let mut book = roles(0, n);
-    let (first, back) = (6, 122);
-    let last = first + 2 * (roles_in_turn - 1);
     if beside {
         dense(&mut book, 8, 2);
         chains_of_three(&mut book, &fields(3), 3000);
     }
+    in_turn(book, n, roles_in_turn, subjects)
+}
+
+fn in_turn(mut book: Book, n: u16, roles_in_turn: u16, subjects: u16) -> Book {
+    let (first, back) = (6, 122);
+    let last = first + 2 * (roles_in_turn - 1);
     (1..n).for_each(|a| book.tell(book::ROLE_ASSERTION, &[STEP, a - 1, a]));
     book.tell(book::ROLE_ASSERTION, &[NEXT, n - 1, 0]);
     for role in (first..=last).step_by(2) {
@@ -274,6 +278,94 @@ fn odometer(n: u16, roles_in_turn: u16, subjects: u16, beside: bool) -> Book {
     (1..subjects).for_each(|a| book.tell(book::ROLE_ASSERTION, &[back, a, a - 1]));
     book.tell(book::ROLE_ASSERTION, &[first, 0, 0]);
     book
+}
+
+/// The same where two roles take turns along the line, and so no chain leads where its first role does.
+fn odometer_of_pairs(n: u16, pairs: u16, subjects: u16, beside: bool) -> Book {
+    let mut book = roles(0, n);
+    let (first, back) = (6, 122);
+    if beside {
+        dense(&mut book, 8, 2);
+        chains_of_three(&mut book, &fields(3), 3000);
+    }
+    (1..n).for_each(|a| book.tell(book::ROLE_ASSERTION, &[STEP, a - 1, a]));
+    // whichever of the two comes to the end
+    book.tell(book::ROLE_ASSERTION, &[NEXT, n - 1, 0]);
+    for pair in 0..pairs {
+        let [one, other] = [first + 4 * pair, first + 4 * pair + 2];
+        book.tell(book::SUB_ROLE, &[one, STEP, other]);
+        book.tell(book::SUB_ROLE, &[other, STEP, one]);
+        for end in [one, other] {
+            if pair + 1 < pairs {
+                book.tell(book::SUB_ROLE, &[end, NEXT, one + 4]);
+            } else {
+                book.tell(book::SUB_ROLE, &[back, end, NEXT, first]);
+            }
+        }
+    }
+    (1..subjects).for_each(|a| book.tell(book::ROLE_ASSERTION, &[back, a, a - 1]));
+    book.tell(book::ROLE_ASSERTION, &[first, 0, 0]);
+    book
+}
+
+/// A link goes up through 60 roles, one above the other and told the last first, a role a round; at the top it is carried to the
+/// next individual of a line of n, under the first role; and the next subject has it where the line ends.
+fn inclusions_in_turn(n: u16, subjects: u16, beside: bool) -> Book {
+    let mut book = roles(0, n);
+    let (first, last, back) = (0, 118, 122);
+    if beside {
+        chains_of_three(&mut book, &[120, 121], 3000);
+        (0..8).for_each(|a| book.tell(book::ROLE_ASSERTION, &[120, a, (a + 1) % 8]));
+        book.tell(book::TRANSITIVE, &[120]);
+    }
+    (first + 2..=last).step_by(2).rev().for_each(|role| book.tell(book::SUB_ROLE, &[role - 2, role]));
+    (1..n).for_each(|a| book.tell(book::ROLE_ASSERTION, &[STEP, a - 1, a]));
+    book.tell(book::SUB_ROLE, &[last, STEP, first]);
+    book.tell(book::ROLE_ASSERTION, &[NEXT, n - 1, 0]);
+    book.tell(book::SUB_ROLE, &[back, last, NEXT, first]);
+    (1..subjects).for_each(|a| book.tell(book::ROLE_ASSERTION, &[back, a, a - 1]));
+    book.tell(book::ROLE_ASSERTION, &[first, 0, 0]);
+    book
+}
+
+/// Types go round by round from one individual to the next: class c has as value the next individual under a role whose range is class
+/// c + 1; so for 250 classes; beside them 2,000 has-values that no one of these classes has.
+fn types_in_turn(beside: bool) -> Book {
+    let mut book = roles(256, 512);
+    for c in 0..250u16 {
+        let nominal = book.concept(book::NOMINAL, &[c + 1]);
+        let value = book.concept(book::SOME, &[2 * (c % 60), nominal]);
+        book.tell(book::SUB_CLASS, &[c, value]);
+        if c < 60 {
+            let all: Vec<u16> = (0..250 / 60 + 1).map(|k| c + 60 * k + 1).filter(|&d| d < 251).collect();
+            let both = book.concept(book::AND, &all);
+            book.tell(book::RANGE, &[2 * c, both]);
+        }
+    }
+    book.tell(book::CLASS_ASSERTION, &[0, 0]);
+    if beside {
+        let all = values(&mut book, &[120, 121, 122, 123], 480);
+        book.tell(book::SUB_CLASS, &[255, all]);
+        book.tell(book::CLASS_ASSERTION, &[255, 511]);
+    }
+    book
+}
+
+/// A line of n individuals by 62 roles in turn, each of which carries p on: p leads a subject one further each round.
+fn steps_in_turn(n: u16, subjects: u16) -> Book {
+    let mut book = roles(0, n);
+    (1..62).rev().for_each(|role| book.tell(book::SUB_ROLE, &[P, 2 * role, P]));
+    (1..n).for_each(|a| book.tell(book::ROLE_ASSERTION, &[2 * (1 + a % 61), a - 1, a]));
+    (0..subjects).for_each(|a| book.tell(book::ROLE_ASSERTION, &[P, a, 0]));
+    book
+}
+
+/// Many rounds of one new link each, of roles whose domain is 255 classes.
+fn odometer_of_domains(n: u16, roles_in_turn: u16, subjects: u16) -> Book {
+    let mut book = roles(256, n);
+    let all = book.concept(book::AND, &(0..255).collect::<Vec<u16>>());
+    (0..roles_in_turn).for_each(|role| book.tell(book::DOMAIN, &[6 + 2 * role, all]));
+    in_turn(book, n, roles_in_turn, subjects)
 }
 
 pub fn odometer_of(n: u16) -> Book {
@@ -313,5 +405,14 @@ pub fn all() -> Vec<Named> {
         one("3,072 rounds of one link, 3,000 chains beside", odometer(512, 6, 1, true)),
         one("20,480 rounds of one link, 3,000 chains beside", odometer(512, 40, 1, true)),
         one("819,200 rounds of one link", odometer(512, 40, 40, false)),
+        one("two roles in turn along 512, 3,000 chains beside", odometer_of_pairs(512, 4, 3, true)),
+        one("860,160 rounds of one link, two roles in turn", odometer_of_pairs(512, 28, 60, false)),
+        one("a link up through 60 roles, 3,000 chains beside", inclusions_in_turn(300, 1, true)),
+        one("a link up through 60 roles, 50 subjects", inclusions_in_turn(300, 50, false)),
+        one("types in turn by has-values and ranges", types_in_turn(false)),
+        one("the same, 1,920 has-values beside", types_in_turn(true)),
+        one("62 steps in turn along 512, one subject", steps_in_turn(512, 1)),
+        one("62 steps in turn along 512, 500 subjects", steps_in_turn(512, 500)),
+        one("one link a round, of domains of 255 classes", odometer_of_domains(512, 40, 40)),
     ]
 }

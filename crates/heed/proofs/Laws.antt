@@ -72,6 +72,16 @@ module _ (s : List ℕ) (h : Counts) (r : Reader) (at : ℕ) where
       pub came-over : (b : Bool) → b ≡ heeded r x → b ≡ false → Came next
       came-over b q p = (i .0 ∙ one false (sym q ∙ p), omega (arith, came-goes .0, i .1))
 
+  -- where every statement counts, each turn of the reader is a step
+  pub step-all : ((x : Statement) → heeded r x ≡ true) → (t : Turn) → t ≡ turnAt s h at → Step s h r at t
+  step-all all (Next x next) e = came-next at came-start (Next x next) x next e refl true (sym (all x)) refl
+  step-all all End e = came-end at came-start End e refl
+
+-- where no one is named and no day, every statement counts
+pub heeded-all : (n : Names) (table : List ℕ) → n .named ≡ false → n .dated ≡ false → (x : Statement) → heeded (readerOf n table) x ≡ true
+unfolding heeded
+heeded-all n table e f x = rw (e, f) refl
+
 -- the two laws of a loop over the statements that count
 module _ (s : List ℕ) (h : Counts) (r : Reader) (at : ℕ) (t : Turn) (k : Step s h r at t) where
   pub heeded-next : (x : Statement) (next : ℕ) → t ≡ Next x next → heedings r (rest s h at) ≡ x ∷ heedings r (rest s h next)

@@ -73,8 +73,8 @@ pub fn heeds(statement: Statement, names: Names, table: &[u32]) -> bool
     false
 }
 
-// The next statement that counts, from an offset on.
-pub fn next_heeded(book: &[u8], at: usize, counts: Counts, names: Names, table: &[u32]) -> Turn
+// The next statement that counts, from an offset on, each put to the test.
+fn next_named(book: &[u8], at: usize, counts: Counts, names: Names, table: &[u32]) -> Turn
     requires { ⌜ Ready names (now table) ⌝ }
     ensures { λ t. ⌜ Step (now (book .entry)) counts (readerOf names (now (table .entry))) at t ⌝ }
 {
@@ -89,6 +89,23 @@ pub fn next_heeded(book: &[u8], at: usize, counts: Counts, names: Names, table: 
             return Turn::Next(statement, next);
         }
         here = next;
+    }
+    Turn::End
+}
+
+// The next statement that counts, from an offset on. Where no reader is named and no day, every one does.
+pub fn next_heeded(book: &[u8], at: usize, counts: Counts, names: Names, table: &[u32]) -> Turn
+    requires { ⌜ Ready names (now table) ⌝ }
+    ensures { λ t. ⌜ Step (now (book .entry)) counts (readerOf names (now (table .entry))) at t ⌝ }
+{
+    if names.named {
+        return next_named(book, at, counts, names, table);
+    }
+    if names.dated {
+        return next_named(book, at, counts, names, table);
+    }
+    if at < book.len() {
+        return next_statement(book, at, counts);
     }
     Turn::End
 }

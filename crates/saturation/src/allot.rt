@@ -9,10 +9,9 @@ ghost use Rattle.tables.specs.Open.{bookOf, sizeOf, Open};
 ghost use Rattle.tables.specs.Tables.{Blank};
 ghost use Rattle.heed.specs.Names.{readerOf, Ready};
 ghost use Rattle.verdict.specs.Conclude.{came};
-ghost use Rattle.saturation.specs.Run.{heardBook, outcomeOn, Admitted, Small, rowsOf, Enough};
+ghost use Rattle.saturation.specs.Run.{heardBook, outcomeOn, Admitted, Small, Tiny, rowsOf, Enough};
 use super::enter::Task;
-use super::run::draw;
-use super::run::read_off;
+use super::run::run_lent;
 use book::header::Counts;
 use tables::size::size_of;
 use tables::size::table_rows;
@@ -34,6 +33,62 @@ fn is_small(counts: Counts) -> bool
         return false;
     }
     counts.statements <= 64
+}
+
+fn is_tiny(counts: Counts) -> bool
+    ensures { λ r. ⌜ (r ≡ true → Tiny counts) ⌝ }
+{
+    if counts.classes > 2 {
+        return false;
+    }
+    if counts.roles > 2 {
+        return false;
+    }
+    if counts.individuals > 4 {
+        return false;
+    }
+    if counts.concepts > 8 {
+        return false;
+    }
+    counts.statements <= 16
+}
+
+// At most 32 rows of links.
+fn tiny(
+    book: &[u8],
+    offsets: &[usize],
+    task: Task,
+    table: &[u32],
+    types: &mut [u32],
+    edges: &mut [u32],
+    pairs: &mut [u32],
+) -> End
+    requires { ⌜ Open (now book) (task .counts) (now offsets) ⌝ }
+    requires { ⌜ rest (now book) (task .counts) (task .from) ≡ bookOf (now book) .statements ⌝ }
+    requires { ⌜ Ready (task .names) (now table) ⌝ }
+    requires { ⌜ Admitted (task .budget) (now types) (now edges) ⌝ }
+    requires { ⌜ Tiny (task .counts) ⌝ }
+    ensures { λ r. ⌜ came r (now (types .exit)) (now (edges .exit)) (now (pairs .exit)) ≡ outcomeOn (heardBook (readerOf (task .names) (now (table .entry))) (now (book .entry))) (task .budget) (now (types .entry)) (now (edges .entry)) (now (pairs .entry)) ⌝ }
+{
+    let mut t = [0u64; 256];
+    let mut says = [0u64; 264];
+    let mut chains = [0u8; 64];
+    let mut labels = [0u32; 4];
+    let mut leaves = [0u32; 8];
+    run_lent(
+        book,
+        offsets,
+        task,
+        table,
+        types,
+        edges,
+        pairs,
+        &mut leaves,
+        &mut says,
+        &mut chains,
+        &mut labels,
+        &mut t,
+    )
 }
 
 // At most 64 rows of links.
@@ -59,27 +114,19 @@ fn small(
     let mut chains = [0u8; 256];
     let mut labels = [0u32; 16];
     let mut leaves = [0u32; 64];
-    let drawn = draw(
+    run_lent(
         book,
         offsets,
         task,
         table,
+        types,
+        edges,
+        pairs,
         &mut leaves,
         &mut says,
         &mut chains,
         &mut labels,
         &mut t,
-    );
-    read_off(
-        &t,
-        task,
-        &says,
-        &leaves,
-        &labels,
-        drawn,
-        types,
-        edges,
-        pairs,
     )
 }
 
@@ -106,18 +153,20 @@ fn large(
     let mut chains = [0u8; 16384];
     let mut labels = [0u32; 512];
     let mut leaves = [0u32; 4096];
-    let drawn = draw(
+    run_lent(
         book,
         offsets,
         task,
         table,
+        types,
+        edges,
+        pairs,
         &mut leaves,
         &mut says,
         &mut chains,
         &mut labels,
         t,
-    );
-    read_off(t, task, &says, &leaves, &labels, drawn, types, edges, pairs)
+    )
 }
 
 // At most 2,048 rows of links.
@@ -227,6 +276,9 @@ pub fn allot(
         return allot(book, offsets, task, table, types, edges, pairs, step + 1);
     }
     if size == 0 {
+        if is_tiny(task.counts) {
+            return tiny(book, offsets, task, table, types, edges, pairs);
+        }
         return small(book, offsets, task, table, types, edges, pairs);
     }
     if size == 1 {

@@ -1,5 +1,5 @@
 -- What is listed of a table: its rows in ascending order (src/list.rt).
-use Prim.Native.Nat.{ℕ, _+_, _-_, _*_, _/_, _<_, _≤_}
+use Prim.Native.Nat.{ℕ, _+_, _-_, _*_, _/_, _<_, _≤_, min}
 use mathlib.Core.Path.{_≡_}
 use mathlib.Core.Bool.{_&&_}
 use mathlib.Core.List.{List, _++_}
@@ -15,6 +15,10 @@ use Rattle.rules.specs.Lists.{gather, only, entries2, entries3, filled}
 abbrev pub rowOf : ℕ → List ℕ → ℕ → ℕ → List Two
 rowOf first t k n = gather n λ b. only (has t k b) (two first b)
 
+-- those of them among the 64 from l on
+abbrev pub wordOf : ℕ → List ℕ → ℕ → ℕ → ℕ → List Two
+wordOf first t k l n = gather (min 64 (n - l)) λ j. only (has t k (l + j)) (two first (l + j))
+
 -- those of them behind that number
 abbrev pub behindOf : ℕ → List ℕ → ℕ → ℕ → List Two
 behindOf first t k n = gather n λ b. only (ltb first b && has t k b) (two first b)
@@ -26,6 +30,10 @@ pairsOf K G n = gather n λ i. behindOf i G (getD K i 0) n
 -- the types of a table
 unfoldable pub typesOf : Size → List ℕ → List Two
 typesOf z t = gather (z .individuals) λ i. gather (z .classes) λ c. only (leads z t (z .fields - 2) i c) (two i c)
+
+-- the members below n of row k among the 64 from l on, each with two numbers in front
+abbrev pub edgesWord : ℕ → ℕ → List ℕ → ℕ → ℕ → ℕ → List Three
+edgesWord r a t k l n = gather (min 64 (n - l)) λ j. only (has t k (l + j)) (three r a (l + j))
 
 -- the edges of a table, of role r and from a; of role r; and of all roles
 abbrev pub edgesFrom : Size → List ℕ → ℕ → ℕ → List Three

@@ -1,12 +1,13 @@
 // The lists: rows in ascending order from the first entry on, and 0 after them.
 ghost use mathlib.Core.Path.{_≡_};
 ghost use mathlib.Core.List.{[], _∷_, _++_};
-ghost use Prim.Native.Nat.{_+_, _-_, _*_, _≤_, _<_};
+ghost use Prim.Native.Nat.{_+_, _-_, _*_, _%_, _≤_, _<_};
 ghost use lib.ListN.{length, take, replicate};
 ghost use Rattle.rows.specs.Table.{Table};
 ghost use Rattle.tables.specs.Tables.{Labelled};
 ghost use Rattle.rules.specs.Lists.{entries2, entries3, filled};
-ghost use Rattle.verdict.specs.Listing.{rowOf, behindOf, pairsOf, typesOf, edgesFrom, edgesOf, allEdges, Written};
+ghost use Rattle.verdict.specs.Listing.{rowOf, wordOf, behindOf, pairsOf, typesOf, edgesWord, edgesFrom, edgesOf, allEdges, Written};
+use rows::row::first as lowest;
 use rows::row::next;
 use rows::table::Size;
 use rows::table::row_of;
@@ -58,6 +59,34 @@ fn put_two(list: &mut [u32], at: usize, a: usize, b: usize)
     list[at + 1] = b as u32;
 }
 
+// A row of two entries for each member below n of row k, among the 64 from `from` on, with `first` in front.
+fn list_word(
+    list: &mut [u32],
+    at: usize,
+    first: usize,
+    t: &[u64],
+    k: usize,
+    from: usize,
+    n: usize,
+) -> usize
+    requires { ⌜ (k * 512 + n ≤ length (now t) * 64) × (n ≤ 512) × (first < 512) × (from < n) × (from % 64 ≡ 0) ⌝ }
+    requires { ⌜ at + 2 * length (wordOf first (now t) k from n) ≤ length (now list) ⌝ }
+    ensures { λ r. ⌜ Written (now (list .entry)) at (entries2 (wordOf first (now (t .entry)) k from n)) (now (list .exit)) r ⌝ }
+{
+    let mut y = t[k * 8 + from / 64];
+    let mut i = at;
+    while y != 0 {
+        let b = from + lowest(y);
+        if b >= n {
+            return i;
+        }
+        put_two(list, i, first, b);
+        i += 2;
+        y = y & (y - 1);
+    }
+    i
+}
+
 // A row of two entries for each member below n of row k, with `first` in front.
 fn list_row(list: &mut [u32], at: usize, first: usize, t: &[u64], k: usize, n: usize) -> usize
     requires { ⌜ (k * 512 + n ≤ length (now t) * 64) × (n ≤ 512) × (first < 512) ⌝ }
@@ -65,11 +94,10 @@ fn list_row(list: &mut [u32], at: usize, first: usize, t: &[u64], k: usize, n: u
     ensures { λ r. ⌜ Written (now (list .entry)) at (entries2 (rowOf first (now (t .entry)) k n)) (now (list .exit)) r ⌝ }
 {
     let mut i = at;
-    let mut b = next(t, k, 0, n);
-    while b < n {
-        put_two(list, i, first, b);
-        i += 2;
-        b = next(t, k, b + 1, n);
+    let mut w = 0;
+    while w < n {
+        i = list_word(list, i, first, t, k, w, n);
+        w += 64;
     }
     i
 }
@@ -104,6 +132,35 @@ fn put_three(list: &mut [u32], at: usize, a: usize, b: usize, c: usize)
     list[at + 2] = c as u32;
 }
 
+// A row of three entries for each member below n of row k, among the 64 from `from` on, with `role` and `first` in front.
+fn list_edges_word(
+    list: &mut [u32],
+    at: usize,
+    role: usize,
+    first: usize,
+    t: &[u64],
+    k: usize,
+    from: usize,
+    n: usize,
+) -> usize
+    requires { ⌜ (k * 512 + n ≤ length (now t) * 64) × (n ≤ 512) × (role < 512) × (first < 512) × (from < n) × (from % 64 ≡ 0) ⌝ }
+    requires { ⌜ at + 3 * length (edgesWord role first (now t) k from n) ≤ length (now list) ⌝ }
+    ensures { λ r. ⌜ Written (now (list .entry)) at (entries3 (edgesWord role first (now (t .entry)) k from n)) (now (list .exit)) r ⌝ }
+{
+    let mut y = t[k * 8 + from / 64];
+    let mut i = at;
+    while y != 0 {
+        let b = from + lowest(y);
+        if b >= n {
+            return i;
+        }
+        put_three(list, i, role, first, b);
+        i += 3;
+        y = y & (y - 1);
+    }
+    i
+}
+
 // A row of three entries for each edge of a role from `first`.
 fn list_edges_from(
     list: &mut [u32],
@@ -121,11 +178,10 @@ fn list_edges_from(
     let k = row_of(size, 2 * role, first);
     let n = size.individuals;
     let mut i = at;
-    let mut b = next(t, k, 0, n);
-    while b < n {
-        put_three(list, i, role, first, b);
-        i += 3;
-        b = next(t, k, b + 1, n);
+    let mut w = 0;
+    while w < n {
+        i = list_edges_word(list, i, role, first, t, k, w, n);
+        w += 64;
     }
     i
 }

@@ -5,7 +5,7 @@ use native.Mathlib.Numerals.{add-one}
 use native.Mathlib.Omega.{arith}
 use mathlib.Core.Path.{_≡_, refl, ap, sym, _∙_}
 use mathlib.Core.Bool.{Bool, true, false, _&&_}
-use mathlib.Core.List.{List, [], _∷_, _++_, append-nil}
+use mathlib.Core.List.{List, [], _∷_, _++_, append-nil, append-assoc}
 use lib.ListN.{length, length-append}
 use lib.Dec.{ltb}
 use borrow.Author.Tests.{lt-ltb, le-ltb}
@@ -18,6 +18,13 @@ module _ {A : Type 0} where
   -- one number more
   pub gather-more : (n : ℕ) (f : ℕ → List A) → gather (n + 1) f ≡ gather n f ++ f n
   gather-more n f = rw add-one refl
+
+  -- d numbers more
+  pub gather-plus : (m d : ℕ) (f : ℕ → List A) → gather (m + d) f ≡ gather m f ++ gather d (λ j. f (m + j))
+  gather-plus m zero f = let e : m + 0 ≡ m = omega arith in rw e (sym (append-nil (gather m f)))
+  gather-plus m (suc d) f =
+      let e : m + suc d ≡ suc (m + d) = omega arith in
+      rw e (ap (λ (r : List A). r ++ f (m + d)) (gather-plus m d f) ∙ append-assoc (gather m f) (gather d (λ j. f (m + j))) (f (m + d)))
 
   -- two that give the same for each number
   pub gather-agree : (n : ℕ) (f g : ℕ → List A) → ((k : ℕ) → k < n → f k ≡ g k) → gather n f ≡ gather n g

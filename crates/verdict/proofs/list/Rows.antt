@@ -1,6 +1,5 @@
 -- The loops that list what is gathered.
-use Prim.Native.Nat.{ℕ, zero, suc, _+_, _<_, _≤_, min}
-use native.Mathlib.Decide.{ℕ-discrete}
+use Prim.Native.Nat.{ℕ, _+_, _-_, _<_, _≤_, min}
 use native.Mathlib.Omega.{arith}
 use mathlib.Core.Path.{_≡_, refl, ap, sym, _∙_}
 use mathlib.Core.Bool.{Bool, true, false}
@@ -10,7 +9,7 @@ use Rattle.rows.specs.Row.{Scan}
 use Rattle.rules.specs.Fact.{Two, Three}
 use Rattle.rules.specs.Lists.{gather, only, entries2, entries3}
 use Rattle.verdict.specs.Listing.{Written}
-use Rattle.verdict.proofs.list.Gathers.{gather-more, only-true, only-false, scan-start, scan-more}
+use Rattle.verdict.proofs.list.Gathers.{gather-more, gather-plus, only-true, only-false, scan-start, scan-more}
 use Rattle.verdict.proofs.list.Writing.{written-none, written-then, written-as}
 
 -- e lays rows out as entries, one row after the other
@@ -33,21 +32,23 @@ lays-three = record { none = refl; append = go }
     go (x ∷ l) m = ap (λ (r : List ℕ). x .role ∷ x .one ∷ x .other ∷ r) (go l m)
 
 module _ {A : Type 0} {e : List A → List ℕ} (y : Lays e) where
-  -- what comes before m, and what m gives, are a part of what is gathered
-  part : (m n : ℕ) (f : ℕ → List A) → m < n → length (e (gather m f)) + length (e (f m)) ≤ length (e (gather n f))
-  part m zero f l = absurd (omega arith)
-  part m (suc n) f l = go (ℕ-discrete m n) (λ q. part m n f q)
-    where
-      whole : length (e (gather n f ++ f n)) ≡ length (e (gather n f)) + length (e (f n))
-      whole = ap length (y .append (gather n f) (f n)) ∙ length-append (e (gather n f)) (e (f n))
+  -- how many entries d numbers more give
+  split : (m d : ℕ) (f : ℕ → List A) → length (e (gather (m + d) f)) ≡ length (e (gather m f)) + length (e (gather d (λ j. f (m + j))))
+  split m d f = ap (λ (r : List A). length (e r)) (gather-plus m d f) ∙ ap length (y .append (gather m f) (gather d (λ j. f (m + j)))) ∙ length-append (e (gather m f)) (e (gather d (λ j. f (m + j))))
 
-      go : Dec (m ≡ n) → (m < n → length (e (gather m f)) + length (e (f m)) ≤ length (e (gather n f))) → length (e (gather m f)) + length (e (f m)) ≤ length (e (gather n f ++ f n))
-      go (yes q) r = let w = whole in rw q (omega arith)
-      go (no q) r = let w = whole in omega (arith, r (omega arith))
+  -- what comes before m, and what the d numbers from m on give, are a part of what is gathered
+  part : (m d n : ℕ) (f : ℕ → List A) → m + d ≤ n → length (e (gather m f)) + length (e (gather d (λ j. f (m + j)))) ≤ length (e (gather n f))
+  part m d n f h =
+      let u : m + d + (n - (m + d)) ≡ n = omega arith in
+      omega (arith, split m d f, rw u at (split (m + d) (n - (m + d)) f))
 
-  -- room for what b gives, once all before it was written
-  room : {l : List ℕ} {at : ℕ} (f : ℕ → List A) {b i : ℕ} {o : List ℕ} → Written l at (e (gather b f)) o i → (n : ℕ) → at + length (e (gather n f)) ≤ length l → b < n → i + length (e (f b)) ≤ length o
-  room f {b} w n r h = omega (arith, w .len, w .behind, part b n f h)
+  -- room for what d numbers from b on give, and for what b gives, once all before b was written
+  module _ {l : List ℕ} {at : ℕ} (f : ℕ → List A) (b : ℕ) {i : ℕ} {o : List ℕ} (w : Written l at (e (gather b f)) o i) (n : ℕ) (r : at + length (e (gather n f)) ≤ length l) where
+    pub block-room : (d : ℕ) → b + d ≤ n → i + length (e (gather d (λ j. f (b + j)))) ≤ length o
+    block-room d h = omega (arith, w .len, w .behind, part b d n f h)
+
+    room : b < n → i + length (e (f b)) ≤ length o
+    room h = let z : b + 0 ≡ b = omega arith in rw z at (block-room 1 (omega arith))
 
 -- ---- a loop over all numbers below n: what f gives for those below b was written from the first entry on
 
@@ -65,7 +66,7 @@ module _ {A : Type 0} {e : List A → List ℕ} (y : Lays e) {f : ℕ → List A
     rows-more h w = record { below = omega arith; written = written-as (sym (ap e (gather-more b f) ∙ y .append (gather b f) (f b))) (written-then (d .written) w) }
 
     pub rows-room : length (e (gather n f)) ≤ length l → b < n → i + length (e (f b)) ≤ length o
-    rows-room r h = room y f (d .written) n (omega arith) h
+    rows-room r h = room y f b (d .written) n (omega arith) h
 
     -- at the end all were written, and they fit
     module _ (h : n ≤ b) where
@@ -96,7 +97,7 @@ module _ {A : Type 0} {e : List A → List ℕ} (y : Lays e) {m : ℕ → Bool} 
   module _ {f : ℕ → List A} {b i : ℕ} {o : List ℕ} (d : Listed e f m n l at b o i) where
     -- room for the member b, and at the end all were written
     pub listed-room : at + length (e (gather n f)) ≤ length l → b < n → i + length (e (f b)) ≤ length o
-    listed-room r h = let q : min b n ≡ b = omega arith in room y f (rw q at (d .written)) n r h
+    listed-room r h = let q : min b n ≡ b = omega arith in room y f b (rw q at (d .written)) n r h
 
     pub listed-all : n ≤ b → Written l at (e (gather n f)) o i
     listed-all h = let q : min b n ≡ n = omega arith in rw q at (d .written)

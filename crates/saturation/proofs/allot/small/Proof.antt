@@ -1,90 +1,53 @@
-use native.Mathlib.Omega.{arith}
-use Prim.Native.Nat.{ℕ, _*_, _≤_}
-use mathlib.Core.Path.{sym, subst, _∙_}
+use Prim.Native.Nat.{ℕ}
+use mathlib.Core.Path.{sym}
 use lib.ListN.{length-replicate}
-use Rattle.said.specs.Layout.{layoutOf, totalRows}
-use Rattle.heed.specs.Names.{readerOf}
-use Rattle.saturation.specs.Run.{heardBook}
 use Rattle.saturation.proofs.allot.Words.{within, small-fresh}
-use Rattle.saturation.proofs.run.Closing.{heard-inside}
-use borrow.Author.Needs.{needs}
 use Rattle.saturation.proofs.allot.small.Statement.{statement}
 use Rattle.saturation.proofs.allot.small.Tie as tie
 
-slice-aggregate-draw : tie.Need-slice-aggregate-draw
-slice-aggregate-draw c = sym {0} (length-replicate {0} {A = ℕ} 64 0)
+slice-aggregate-run-lent : tie.Need-slice-aggregate-run-lent
+slice-aggregate-run-lent c = sym {0} (length-replicate {0} {A = ℕ} 64 0)
 
-slice-aggregate-draw-2 : tie.Need-slice-aggregate-draw-2
-slice-aggregate-draw-2 c = sym {0} (length-replicate {0} {A = ℕ} 1416 0)
+slice-aggregate-run-lent-2 : tie.Need-slice-aggregate-run-lent-2
+slice-aggregate-run-lent-2 c = sym {0} (length-replicate {0} {A = ℕ} 1416 0)
 
-slice-aggregate-draw-3 : tie.Need-slice-aggregate-draw-3
-slice-aggregate-draw-3 c = sym {0} (length-replicate {0} {A = ℕ} 256 0)
+slice-aggregate-run-lent-3 : tie.Need-slice-aggregate-run-lent-3
+slice-aggregate-run-lent-3 c = sym {0} (length-replicate {0} {A = ℕ} 256 0)
 
-slice-aggregate-draw-4 : tie.Need-slice-aggregate-draw-4
-slice-aggregate-draw-4 c = sym {0} (length-replicate {0} {A = ℕ} 16 0)
+slice-aggregate-run-lent-4 : tie.Need-slice-aggregate-run-lent-4
+slice-aggregate-run-lent-4 c = sym {0} (length-replicate {0} {A = ℕ} 16 0)
 
-slice-aggregate-draw-5 : tie.Need-slice-aggregate-draw-5
-slice-aggregate-draw-5 c = sym {0} (length-replicate {0} {A = ℕ} 512 0)
+slice-aggregate-run-lent-5 : tie.Need-slice-aggregate-run-lent-5
+slice-aggregate-run-lent-5 c = sym {0} (length-replicate {0} {A = ℕ} 512 0)
 
-draw-requires : tie.Need-draw-requires
-draw-requires c κs =
-    let p = c .before .before .before .before .before .before .before .before .before .before .before .pre in
-    (p .0, (p .1 .0, (p .1 .1 .0, (small-fresh _ (p .1 .1 .1 .1 .0) (p .1 .1 .1 .1 .1), within 64 _ (p .1 .1 .1 .1 .0 .concepts)))))
-
-slice-aggregate-read-off : tie.Need-slice-aggregate-read-off
-slice-aggregate-read-off c = sym {0} (c .before .t2 .given ∙ length-replicate {0} {A = ℕ} 512 0)
-
-slice-aggregate-read-off-2 : tie.Need-slice-aggregate-read-off-2
-slice-aggregate-read-off-2 c = sym {0} (c .before .before .before .before .before .says2 .given ∙ length-replicate {0} {A = ℕ} 1416 0)
-
-slice-aggregate-read-off-3 : tie.Need-slice-aggregate-read-off-3
-slice-aggregate-read-off-3 c = sym {0} (c .before .before .before .before .before .before .before .leaves2 .given ∙ length-replicate {0} {A = ℕ} 64 0)
-
-slice-aggregate-read-off-4 : tie.Need-slice-aggregate-read-off-4
-slice-aggregate-read-off-4 c = sym {0} (c .before .before .before .before .before .labels2 .given ∙ length-replicate {0} {A = ℕ} 16 0)
-
-read-off-requires : tie.Need-read-off-requires
-read-off-requires c κs =
-    let s = c .before .before .before .before .before .before .before .before .before .before .before .before .before .before .before .before .before .before .before .before .before .before .before .before in
-    let p = s .pre in
-    let r = readerOf (s .args .task .names) (s .args .table .now) in
-    let h = s .args .task .counts in
-    let z = p .1 .1 .1 .1 .0 in (
-      (heardBook r (s .args .book .now), heard-inside r (p .0), p .0 .counts, c .before .before .before .before .before .before .before .before .before .before .before .before .draw .ensures .0),
-      ((subst (λ (n : ℕ). totalRows (layoutOf h) * 8 ≤ n) (sym (c .before .before .before .before .before .before .before .before .before .before .says2 .given)) (small-fresh h z (p .1 .1 .1 .1 .1) .room .rows), subst (λ (n : ℕ). h .concepts ≤ n) (sym (c .before .before .before .before .before .before .before .before .before .before .before .leaves2 .given)) (within 64 _ (z .concepts))), p .1 .1 .1 .0),
-    )
+run-lent-requires : tie.Need-run-lent-requires
+run-lent-requires c κs =
+    let p = c .before .before .before .before .before .before .before .before .before .before .before .before .before .before .pre in
+    let z = p .1 .1 .1 .1 .0 in
+    (p .0, (p .1 .0, (p .1 .1 .0, (p .1 .1 .1 .0, (small-fresh _ z (p .1 .1 .1 .1 .1), within 64 _ (z .concepts))))))
 
 same-length : tie.Need-same-length
-same-length c = c .before .before .before .before .before .types .given
+same-length c = c .before .before .before .before .before .before .before .before .before .before .types .given
 
 same-length-2 : tie.Need-same-length-2
-same-length-2 c = c .before .before .before .edges .given
+same-length-2 c = c .before .before .before .before .before .before .before .before .edges .given
 
 same-length-3 : tie.Need-same-length-3
-same-length-3 c = c .before .pairs .given
+same-length-3 c = c .before .before .before .before .before .before .pairs .given
 
 returns : tie.Need-returns
-returns c =
-    let s = c .before .before .before .before .before .before .before .before .before .before .before .before .before .before .before .before .before .before .before .before .before .before .before .before .before .before .before .before .before .before .before in
-    let p = s .pre in
-    let r = readerOf (s .args .task .names) (s .args .table .now) in
-    c .before .before .before .before .before .before .read-off .ensures (heardBook r (s .args .book .now)) (heard-inside r (p .0)) (p .0 .counts) (c .before .before .before .before .before .before .before .before .before .before .before .before .before .before .before .before .before .before .before .draw .ensures .0)
+returns c = c .before .before .before .before .before .before .before .before .before .before .before .run-lent .ensures
 
 pub small-spec : {M : Type 1} → statement M
 small-spec =
     tie.close
     (tie.spec
-    slice-aggregate-draw
-    slice-aggregate-draw-2
-    slice-aggregate-draw-3
-    slice-aggregate-draw-4
-    slice-aggregate-draw-5
-    draw-requires
-    slice-aggregate-read-off
-    slice-aggregate-read-off-2
-    slice-aggregate-read-off-3
-    slice-aggregate-read-off-4
-    read-off-requires
+    slice-aggregate-run-lent
+    slice-aggregate-run-lent-2
+    slice-aggregate-run-lent-3
+    slice-aggregate-run-lent-4
+    slice-aggregate-run-lent-5
+    run-lent-requires
     same-length
     same-length-2
     same-length-3

@@ -5,53 +5,43 @@ use Rattle.rows.specs.Row.{has}
 use Rattle.rules.specs.Fact.{two}
 use Rattle.rules.specs.Lists.{only, entries2}
 use Rattle.rules.proofs.Ended.{length-entries2}
-use Rattle.verdict.proofs.list.Rows.{Listed, lays-two, members-start, members-more, members-room, listed-all}
+use Rattle.verdict.proofs.list.Rows.{lays-two}
+use Rattle.verdict.proofs.list.Words.{Words, words-start, words-more, words-room, words-all}
 use Rattle.verdict.proofs.list.list_row.Statement.{statement}
 use Rattle.verdict.proofs.list.list_row.Tie as tie
 
 abbrev Inv-loop : tie.InvT-loop
-Inv-loop list₀ at first t k n i₀ b₀ list i b = Listed entries2 (λ x. only (has t k x) (two first x)) (has t k) n list₀ at b list i
+Inv-loop list₀ at first t k n i₀ w₀ list i w = Words entries2 (λ x. only (has t k x) (two first x)) n list₀ at w list i
 
 abbrev μ-loop : tie.MeasureT-loop
-μ-loop list₀ at first t k n i₀ b₀ list i b = n - b
-
-next-requires : tie.Need-next-requires Inv-loop μ-loop
-next-requires c κs = search needs
+μ-loop list₀ at first t k n i₀ w₀ list i w = n - w
 
 loop-holds : tie.Need-loop-holds Inv-loop μ-loop
-loop-holds c = members-start lays-two _ (c .next .ensures)
+loop-holds c = words-start lays-two
 
-put-two-requires : tie.Need-put-two-requires Inv-loop μ-loop
-put-two-requires c κs =
+list-word-requires : tie.Need-list-word-requires Inv-loop μ-loop
+list-word-requires c κs =
     let l = c .before .before in
-    let r = members-room lays-two _ (l .loop .inv) (c .before .loop-test .taken) (rw length-entries2 (l .before .before .before .before .pre .1)) in
-    omega arith
+    let p = l .before .before .before .pre in
+    let h = c .before .loop-test .taken in
+    (omega (arith, l .loop .inv .start), rw length-entries2 at (words-room lays-two (l .loop .inv) (rw length-entries2 (p .1)) h))
 
-add-i : tie.Need-add-i Inv-loop μ-loop
-add-i c =
-    let l = c .before .before .before .before .before in
-    let r = members-room lays-two _ (l .loop .inv) (c .before .before .before .before .loop-test .taken) (rw length-entries2 (l .before .before .before .before .pre .1)) in
-    record { fits = omega (arith, l .loop .inv .written .len) }
-
-add-next : tie.Need-add-next Inv-loop μ-loop
-add-next c = search needs
-
-next-requires-2 : tie.Need-next-requires-2 Inv-loop μ-loop
-next-requires-2 c κs = search needs
+add-w : tie.Need-add-w Inv-loop μ-loop
+add-w c = search needs
 
 loop-less : tie.Need-loop-less Inv-loop μ-loop
 loop-less c = search needs
 
 loop-again : tie.Need-loop-again Inv-loop μ-loop
 loop-again c =
-    let k = c .before .before .before in
-    members-more lays-two _ (k .before .before .before .loop .inv) (k .before .before .loop-test .taken) (k .put-two .ensures) (c .next2 .ensures)
+    let t = c .before .before .before .before in
+    words-more lays-two (t .before .loop .inv) (t .loop-test .taken) (c .before .before .list-word .ensures)
 
 same-length : tie.Need-same-length Inv-loop μ-loop
 same-length c = c .before .loop .inv .written .len
 
 returns : tie.Need-returns Inv-loop μ-loop
-returns c = listed-all lays-two (c .before .loop .inv) (c .loop-test .left)
+returns c = words-all lays-two (c .before .loop .inv) (c .loop-test .left)
 
 pub list-row-spec : {M : Type 1} → statement M
 list-row-spec =
@@ -59,12 +49,9 @@ list-row-spec =
     (tie.spec
     Inv-loop
     μ-loop
-    next-requires
     loop-holds
-    put-two-requires
-    add-i
-    add-next
-    next-requires-2
+    list-word-requires
+    add-w
     loop-less
     loop-again
     same-length
