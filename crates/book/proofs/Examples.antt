@@ -14,7 +14,7 @@ use Rattle.book.specs.Header.{header}
 use Rattle.book.specs.Concept.{conceptStart, partList, bound, conceptTail, conceptRest, concept}
 use Rattle.book.specs.Statement.{statementStart, pathOf, axiomOf, bare, statementEnd, statementRest, statement}
 use Rattle.book.specs.Tree.{Atomic, Nominal, Some, partTrees}
-use Rattle.book.specs.Book.{Book, concepts, book, Decoded, accepted, refused, decode}
+use Rattle.book.specs.Book.{Book, concepts, book, Decoded, accepted, refused, decode, passedUpTo, conceptsRead}
 
 -- no bytes, the one byte 00, and a written count 0
 empty : decode [] ≡ refused 4
@@ -70,6 +70,23 @@ workedBook =
 worked-decodes : decode worked ≡ accepted workedBook
 unfolding worked workedBook decode book header concepts several concept conceptStart conceptRest conceptTail partList bound statement statementStart statementRest statementEnd axiomOf pathOf statementAllows roleOf fields fieldsFrom field byte twoBytes fourBytes partTrees
 worked-decodes = refl
+
+-- How many concept records stand before the first faulty one, in books of one class and two concepts.
+abbrev withConcepts : List ℕ → List ℕ
+withConcepts records = 0x09 ∷ 1 ∷ 0 ∷ 2 ∷ 0 ∷ records
+
+abbrev readings : List ℕ
+readings =
+    conceptsRead (withConcepts (2 ∷ 0x01 ∷ 0 ∷ 0 ∷ 2 ∷ 0x01 ∷ 0 ∷ 0 ∷ []))
+    ∷ conceptsRead (withConcepts (2 ∷ 0x01 ∷ 0 ∷ 0 ∷ 2 ∷ 0x01 ∷ 0 ∷ 0 ∷ 7 ∷ []))  -- a byte behind the book
+    ∷ conceptsRead (withConcepts (2 ∷ 0x01 ∷ 0 ∷ 0 ∷ 2 ∷ 0x01 ∷ 1 ∷ 0 ∷ []))  -- the second of a class that is not there
+    ∷ conceptsRead (withConcepts (2 ∷ 0x01 ∷ 1 ∷ 0 ∷ 2 ∷ 0x01 ∷ 0 ∷ 0 ∷ []))  -- the first
+    ∷ conceptsRead (0x29 ∷ 1 ∷ 0 ∷ 2 ∷ 0 ∷ 2 ∷ 0x01 ∷ 0 ∷ 0 ∷ 2 ∷ 0x01 ∷ 0 ∷ 0 ∷ [])  -- bit 5 of the header's map
+    ∷ []
+
+concepts-counted : readings ≡ 2 ∷ 2 ∷ 1 ∷ 0 ∷ 0 ∷ []
+unfolding conceptsRead passedUpTo header concepts concept conceptStart conceptRest conceptTail partList bound fields fieldsFrom field byte twoBytes fourBytes partTrees
+concepts-counted = refl
 
 -- Sources and days: of a book of two individuals with one statement, `0 same as 1`, the high byte of its map and what stands behind its own fields, with
 -- the refusal, or 0 where the book is accepted.

@@ -1,5 +1,5 @@
 -- The whole book: header, concepts, statements, and nothing behind them.
-use Prim.Native.Nat.{ℕ, zero, suc, _<_}
+use Prim.Native.Nat.{ℕ, zero, suc, _≤_, _<_}
 use mathlib.Core.Path.{_≡_}
 use mathlib.Core.List.{List, [], _∷_, _++_}
 use lib.ListN.{length, getD}
@@ -74,6 +74,20 @@ behind (refusal n) = 0
 unfoldable pub conceptOffset : List ℕ → ℕ → ℕ
 conceptOffset s k = behind (onward (header s 0) λ h at. concepts h k s at)
 
+-- what becomes of a value and the offset behind it, or the same for every refusal
+abbrev pub onValue : {A B : Type 0} → Read A → (A → ℕ → B) → B → B
+onValue (value a next) go other = go a next
+onValue (refusal n) go other = other
+
+-- of the first k concept records, how many stand before the first faulty one; all k where none is faulty
+unfoldable pub passedUpTo : Counts → ℕ → List ℕ → ℕ → ℕ
+passedUpTo h zero s at = 0
+passedUpTo h (suc k) s at = onValue (concepts h (suc k) s at) (λ ts next. suc k) (passedUpTo h k s at)
+
+-- how many concept records of a byte string stand before the first faulty one; none where the header is faulty
+unfoldable pub conceptsRead : List ℕ → ℕ
+conceptsRead s = onValue (header s 0) (λ h at. passedUpTo h (h .concepts) s at) 0
+
 -- the bytes of the concept records
 unfoldable pub conceptBytes : List ℕ → Book → List ℕ
 conceptBytes s b = slice (conceptOffset s 0) (conceptOffset s (b .counts .concepts)) s
@@ -96,3 +110,17 @@ pub record ConceptsPassed (s : List ℕ) (h : Counts) (at : ℕ) (r : Passed) (o
 pub record BookChecked (s : List ℕ) (r : Checked) (offsets : List ℕ) : Type 0 where
   pub answer : r ≡ checkOf s (decode s)
   pub starts : (b : Book) → decode s ≡ accepted b → (k : ℕ) → k < b .counts .concepts → k < length offsets → getD offsets k 0 ≡ conceptOffset s k
+
+-- a list in which the starts of the first n records are noted, as far as there is room, and all else is as before
+pub record StartsNoted (n : ℕ) (start : ℕ → ℕ) (before after : List ℕ) : Type 0 where
+  pub len : length after ≡ length before
+  pub noted : (k : ℕ) → k < n → k < length before → getD after k 0 ≡ start k
+  pub kept : (k : ℕ) → n ≤ k → getD after k 0 ≡ getD before k 0
+
+-- what going over the concept records leaves in the offsets, where one is faulty too
+abbrev pub ConceptsLeft : List ℕ → Counts → ℕ → List ℕ → List ℕ → Type 0
+ConceptsLeft s h at before after = StartsNoted (passedUpTo h (h .concepts) s at) (λ k. behind (concepts h k s at)) before after
+
+-- what the check of a book leaves in the offsets, of a refused book too
+abbrev pub OffsetsLeft : List ℕ → List ℕ → List ℕ → Type 0
+OffsetsLeft s before after = StartsNoted (conceptsRead s) (conceptOffset s) before after

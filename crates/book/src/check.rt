@@ -5,7 +5,7 @@ ghost use Rattle.book.specs.Read.{several};
 ghost use Rattle.book.specs.Field.{asPassed, passed};
 ghost use Rattle.book.specs.Concept.{asConcept};
 ghost use Rattle.book.specs.Statement.{statement, asStatement};
-ghost use Rattle.book.specs.Book.{ConceptsPassed, BookChecked};
+ghost use Rattle.book.specs.Book.{ConceptsPassed, BookChecked, ConceptsLeft, OffsetsLeft};
 use super::concept::ReadConcept;
 use super::concept::concept_at;
 use super::field::Passed;
@@ -42,6 +42,7 @@ fn note(offsets: &mut [usize], i: usize, x: usize)
 // Over all concept records; notes in `offsets` where each starts.
 fn concepts_at(book: &[u8], at: usize, counts: Counts, offsets: &mut [usize]) -> Passed
     ensures { λ r. ⌜ ConceptsPassed (now (book .entry)) counts at r (now (offsets .exit)) ⌝ }
+    ensures { λ _. ⌜ ConceptsLeft (now (book .entry)) counts at (now (offsets .entry)) (now (offsets .exit)) ⌝ }
 {
     let mut here = at;
     let mut k: u16 = 0;
@@ -83,9 +84,10 @@ fn statements_at(book: &[u8], at: usize, counts: Counts) -> Passed
     Passed::Next(here)
 }
 
-// The whole book; of an accepted one `offsets` has where each concept record starts, as far as it has room.
+// The whole book; notes in `offsets` where each concept record before the first faulty one starts, as far as it has room.
 pub fn check_book(book: &[u8], offsets: &mut [usize]) -> Checked
     ensures { λ r. ⌜ BookChecked (now (book .entry)) r (now (offsets .exit)) ⌝ }
+    ensures { λ _. ⌜ OffsetsLeft (now (book .entry)) (now (offsets .entry)) (now (offsets .exit)) ⌝ }
 {
     let head = header_at(book);
     match head {

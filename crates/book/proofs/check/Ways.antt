@@ -1,5 +1,5 @@
 -- The loops over concept records and statements, and the ways out of the check of a whole book.
-use Prim.Native.Nat.{ℕ, suc, _+_, _≤_, _<_, zero-le}
+use Prim.Native.Nat.{ℕ, zero, suc, _+_, _≤_, _<_, zero-le}
 use native.Mathlib.Omega.{arith}
 use native.Mathlib.Decide.{decLt}
 use mathlib.Core.Path.{_≡_, refl, sym, ap, _∙_, subst}
@@ -25,7 +25,7 @@ use Rattle.book.specs.Header.{header, asHeader}
 use Rattle.book.specs.Concept.{concept, asConcept}
 use Rattle.book.specs.Statement.{statement, asStatement}
 use Rattle.book.specs.Tree.{Concept, treeOf}
-use Rattle.book.specs.Book.{Book, concepts, book, accepted, refused, decode, behind, conceptOffset, checkOf, ConceptsPassed, BookChecked}
+use Rattle.book.specs.Book.{Book, concepts, book, accepted, refused, decode, behind, conceptOffset, passedUpTo, conceptsRead, checkOf, ConceptsPassed, BookChecked, StartsNoted, ConceptsLeft, OffsetsLeft}
 use Rattle.book.proofs.Parsing.{no-value, passed-value, passed-refusal, walk-more, walk-refused, several-none, several-more, several-refused}
 
 -- the concept records are a walk
@@ -40,50 +40,88 @@ module _ (s : List ℕ) (h : Counts) (at : ℕ) where
   unfolding concepts
   unroll-concepts k = refl
 
-  -- the records below k are passed, and their starts are noted
-  pub record ConceptsNoted (k here : ℕ) (offsets : List ℕ) : Type 0 where
+  -- where the record of concept k starts
+  abbrev pub recordStart : ℕ → ℕ
+  recordStart k = behind (concepts h k s at)
+
+  -- where the first k records are passed and every longer walk is refused, k records are before the first faulty one
+  passed-up-to : (k here n : ℕ) (ts : List Concept) → concepts h k s at ≡ value ts here → (m : ℕ) → k ≤ m → ((j : ℕ) → k < j → j ≤ m → concepts h j s at ≡ refusal n) → passedUpTo h m s at ≡ k
+  unfolding passedUpTo
+  passed-up-to k here n ts e zero l f = omega arith
+  passed-up-to k here n ts e (suc m) l f = go (decLt k (suc m)) (passed-up-to k here n ts e m)
+    where
+      go : Dec (k < suc m) → (k ≤ m → ((j : ℕ) → k < j → j ≤ m → concepts h j s at ≡ refusal n) → passedUpTo h m s at ≡ k) → passedUpTo h (suc m) s at ≡ k
+      go (yes b) rest = simp (f (suc m) b (omega arith), rest (omega arith) (λ j x y. f j x (omega arith)))
+      go (no b) rest =
+          let q : k ≡ suc m = omega arith in
+          let w : concepts h (suc m) s at ≡ value ts here = subst (λ (x : ℕ). concepts h x s at ≡ value ts here) q e in
+          simp (w, q)
+
+  -- the records below k are passed, and their starts are noted; all else is as before
+  pub record ConceptsNoted (k here : ℕ) (before offsets : List ℕ) : Type 0 where
     pub trees : List Concept
     pub place : concepts h k s at ≡ value trees here
-    pub starts : (j : ℕ) → j < k → j < length offsets → getD offsets j 0 ≡ behind (concepts h j s at)
+    pub left : StartsNoted k recordStart before offsets
     pub top : k ≤ h .concepts
 
-  pub none-noted : (offsets : List ℕ) → ConceptsNoted 0 at offsets
+  pub none-noted : (offsets : List ℕ) → ConceptsNoted 0 at offsets offsets
   unfolding concepts
-  none-noted offsets = record { trees = []; place = refl; starts = λ j b. absurd (omega arith); top = zero-le }
+  none-noted offsets = record { trees = []; place = refl; left = record { len = refl; noted = λ j b. absurd (omega arith); kept = λ j b. refl }; top = zero-le }
 
-  module _ (k here : ℕ) (offsets : List ℕ) (i : ConceptsNoted k here offsets) (r : ReadConcept) (read : asConcept r ≡ concept h k s here) where
-    pub concepts-refused : (n : ℕ) (p : Passed) → k < h .concepts → r ≡ Refused n → asPassed p ≡ passed (asConcept r) → ConceptsPassed s h at p offsets
-    concepts-refused n p l f g =
-        let w : asPassed p ≡ refusal n = g ∙ simp f in
-        let q = walk-refused Concepts oneConcept unroll-concepts k (i .trees) here n (h .concepts) (i .place) (simp (← read, f)) l in
-        record { ends = w ∙ simp q; starts = λ e t j b m. no-value n tt e (sym w ∙ simp t) }
+  module _ (k here : ℕ) (before offsets : List ℕ) (i : ConceptsNoted k here before offsets) where
+    starts : (j : ℕ) → j < k → j < length offsets → getD offsets j 0 ≡ recordStart j
+    starts j b m = i .left .noted j b (omega (arith, i .left .len))
 
-    again : (x : ConceptExpr) (next : ℕ) → k < h .concepts → r ≡ Next x next → ConceptsNoted (k + 1) next (set offsets k here)
-    again x next l f =
-        record {
-          trees = i .trees ++ (treeOf s (i .trees) x ∷ []);
-          place = walk-more Concepts oneConcept unroll-concepts k (i .trees) here (i .place) ∙ simp (← read, f);
-          starts = λ j b m. start j b (simp length-set at m) (decLt j k);
-          top = omega arith;
-        }
-      where
-        start : (j : ℕ) → j < k + 1 → j < length offsets → Dec (j < k) → getD (set offsets k here) j 0 ≡ behind (concepts h j s at)
-        start j b m (yes l) =
-            let q : (j ≡ k → ⊥) = omega arith in
-            getD-set-other offsets k j here 0 q ∙ i .starts j l m
-        start j b m (no l) =
-            let q : j ≡ k = omega arith in
-            let fits : k < length offsets = omega arith in
-            rw q (getD-set-same offsets k here 0 fits ∙ sym (simp (i .place)))
+    module _ (r : ReadConcept) (read : asConcept r ≡ concept h k s here) where
+      refused-behind : (n : ℕ) → r ≡ Refused n → (j : ℕ) → k < j → concepts h j s at ≡ refusal n
+      refused-behind n f j l = walk-refused Concepts oneConcept unroll-concepts k (i .trees) here n j (i .place) (simp (← read, f)) l
 
-    pub concepts-again : (x : ConceptExpr) (next : ℕ) (noted : List ℕ) → k < h .concepts → r ≡ Next x next → noted ≡ set offsets k here → ConceptsNoted (k + 1) next noted
-    concepts-again x next noted l f g = subst (ConceptsNoted (k + 1) next) (sym g) (again x next l f)
+      pub concepts-refused : (n : ℕ) (p : Passed) → k < h .concepts → r ≡ Refused n → asPassed p ≡ passed (asConcept r) → ConceptsPassed s h at p offsets × ConceptsLeft s h at before offsets
+      concepts-refused n p l f g =
+          let w : asPassed p ≡ refusal n = g ∙ simp f in
+          let q = refused-behind n f (h .concepts) l in
+          let count = passed-up-to k here n (i .trees) (i .place) (h .concepts) (i .top) (λ j b m. refused-behind n f j b) in (
+            record { ends = w ∙ simp q; starts = λ e t j b m. no-value n tt e (sym w ∙ simp t) },
+            subst (λ (m : ℕ). StartsNoted m recordStart before offsets) (sym count) (i .left),
+          )
 
-  pub concepts-done : (k here : ℕ) (offsets : List ℕ) → ConceptsNoted k here offsets → h .concepts ≤ k → ConceptsPassed s h at (On here) offsets
-  concepts-done k here offsets i l =
-      let q : k ≡ h .concepts = omega (arith, i .top) in
-      let w : concepts h (h .concepts) s at ≡ value (i .trees) here = subst (λ (x : ℕ). concepts h x s at ≡ value (i .trees) here) q (i .place) in
-      record { ends = sym (ap passed w); starts = λ e t j b m. i .starts j (omega arith) m }
+      again : (x : ConceptExpr) (next : ℕ) → k < h .concepts → r ≡ Next x next → ConceptsNoted (k + 1) next before (set offsets k here)
+      again x next l f =
+          record {
+            trees = i .trees ++ (treeOf s (i .trees) x ∷ []);
+            place = walk-more Concepts oneConcept unroll-concepts k (i .trees) here (i .place) ∙ simp (← read, f);
+            left =
+                record {
+                  len = simp (length-set, i .left .len);
+                  noted = λ j b m. start j b m (decLt j k);
+                  kept =
+                      λ j b.
+                      let q : (j ≡ k → ⊥) = omega arith in
+                      getD-set-other offsets k j here 0 q ∙ i .left .kept j (omega arith);
+                };
+            top = omega arith;
+          }
+        where
+          start : (j : ℕ) → j < k + 1 → j < length before → Dec (j < k) → getD (set offsets k here) j 0 ≡ recordStart j
+          start j b m (yes l) =
+              let q : (j ≡ k → ⊥) = omega arith in
+              getD-set-other offsets k j here 0 q ∙ i .left .noted j l m
+          start j b m (no l) =
+              let q : j ≡ k = omega arith in
+              let fits : k < length offsets = omega (arith, i .left .len) in
+              rw q (getD-set-same offsets k here 0 fits ∙ sym (simp (i .place)))
+
+      pub concepts-again : (x : ConceptExpr) (next : ℕ) (noted : List ℕ) → k < h .concepts → r ≡ Next x next → noted ≡ set offsets k here → ConceptsNoted (k + 1) next before noted
+      concepts-again x next noted l f g = subst (ConceptsNoted (k + 1) next before) (sym g) (again x next l f)
+
+    pub concepts-done : h .concepts ≤ k → ConceptsPassed s h at (On here) offsets × ConceptsLeft s h at before offsets
+    concepts-done l =
+        let q : k ≡ h .concepts = omega (arith, i .top) in
+        let w : concepts h (h .concepts) s at ≡ value (i .trees) here = subst (λ (x : ℕ). concepts h x s at ≡ value (i .trees) here) q (i .place) in
+        let count = passed-up-to k here 0 (i .trees) (i .place) (h .concepts) (i .top) (λ j b m. absurd (omega arith)) in (
+          record { ends = sym (ap passed w); starts = λ e t j b m. starts j (omega arith) m },
+          subst (λ (m : ℕ). StartsNoted m recordStart before offsets) (sym count) (i .left),
+        )
 
 -- the statements are a walk
 module _ (s : List ℕ) (h : Counts) (at : ℕ) where
@@ -152,3 +190,23 @@ module _ (s offsets : List ℕ) where
                 }
 
 pub ruleset book-ways = (book-headless, book-concepts, book-statements, book-longer, book-accepted)
+
+-- what the check leaves in the offsets
+module _ (s : List ℕ) (r : ReadHeader) (read : asHeader r ≡ header s 0) where
+  pub left-headless : (offsets : List ℕ) (n : ℕ) → r ≡ Uncounted n → OffsetsLeft s offsets offsets
+  unfolding conceptsRead
+  left-headless offsets n f =
+      let e : conceptsRead s ≡ 0 = simp (← read, f) in
+      record { len = refl; noted = λ k b. absurd (omega arith); kept = λ k b. refl }
+
+  pub left-counted : (before after : List ℕ) (h : Counts) (at : ℕ) → r ≡ Counted h at → ConceptsLeft s h at before after → OffsetsLeft s before after
+  unfolding conceptsRead conceptOffset
+  left-counted before after h at f left =
+      let e : conceptsRead s ≡ passedUpTo h (h .concepts) s at = simp (← read, f) in
+      record {
+        len = left .len;
+        noted = λ k b m. left .noted k (rw e at b) m ∙ simp (← read, f);
+        kept = λ k b. left .kept k (rw e at b);
+      }
+
+pub ruleset left-ways = (left-headless, left-counted)

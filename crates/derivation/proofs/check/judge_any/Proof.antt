@@ -16,7 +16,7 @@ enum-known-check-2 c = search needs
 
 judge-book-requires : tie.Need-judge-book-requires
 judge-book-requires c κs =
-    let k = c .before .before .before .before .before .before .check-book .ensures in
+    let k = c .before .before .before .before .before .before .check-book .ensures .0 in
     let e = c .before .before .check2 .given .1 in
     (checked-open k e (omega (arith, checked-few k e, c .before .before .before .before .before .before .before .before .before .before .before .pre, c .before .before .before .before .before .offsets .given)), checked-rest k e)
 
@@ -24,14 +24,14 @@ same-length : tie.Need-same-length
 same-length c = search needs
 
 returns : tie.Need-returns
-returns c = judged-refused (c .before .before .before .before .before .before .before .before .before .before .args .rows .now) (c .before .before .before .before .before .check-book .ensures) (c .before .check .given .1)
+returns c = judged-refused (c .before .before .before .before .before .before .before .before .before .before .args .rows .now) (c .before .before .before .before .before .check-book .ensures .0) (c .before .check .given .1)
 
 same-length-2 : tie.Need-same-length-2
 same-length-2 c = search needs
 
 returns-2 : tie.Need-returns-2
 returns-2 c =
-    let k = c .before .before .before .before .before .before .before .check-book .ensures in
+    let k = c .before .before .before .before .before .before .before .check-book .ensures .0 in
     let e = c .before .before .before .check2 .given .1 in
     judged-of (c .before .before .before .before .before .before .before .before .before .before .before .before .args .rows .now) (checked-open k e (omega (arith, checked-few k e, c .before .before .before .before .before .before .before .before .before .before .before .before .pre, c .before .before .before .before .before .before .offsets .given))) (c .judge-book .ensures)
 

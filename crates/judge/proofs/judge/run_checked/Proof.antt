@@ -23,7 +23,7 @@ enum-known-check-2 c = search needs
 run-accepted-requires : tie.Need-run-accepted-requires
 run-accepted-requires c κs =
     let p = c .before .before .before .before .before .before .before .before .before .before .before .before .before .before .before .before .before .pre in
-    let k = c .before .before .before .before .before .before .before .before .before .check-book .ensures in
+    let k = c .before .before .before .before .before .before .before .before .before .check-book .ensures .0 in
     let e = c .before .before .before .before .before .check2 .given .1 in
     (checked-open k e (checked-room k e (λ B d. subst (λ (m : ℕ). B .counts .concepts ≤ m) (sym (c .before .before .before .before .before .before .before .before .offsets .given)) (p .0 B d))), (checked-rest k e, (p .1 .1, p .1 .0)))
 
@@ -37,7 +37,7 @@ returns c =
     let p = s .pre in
     let i = a .question .individual in
     let k = a .question .concept in
-    refused-read (p .1 .0) (a .pairs .now) i k (a .names) (a .table .now) (p .1 .1) (c .before .before .before .before .before .check-book .ensures) (c .before .check .given .1)
+    refused-read (p .1 .0) (a .pairs .now) i k (a .names) (a .table .now) (p .1 .1) (c .before .before .before .before .before .check-book .ensures .0) (c .before .check .given .1)
 
 same-length-2 : tie.Need-same-length-2
 same-length-2 c = search needs

@@ -27,14 +27,14 @@ same-length c = search needs
 returns : tie.Need-returns
 returns c =
     let p = c .before .before .before .before .before .before .before .before .pre in
-    let e = checked-refused _ _ _ (c .before .before .before .before .check-book .ensures) _ (c .enum-told .given .1) in
+    let e = checked-refused _ _ _ (c .before .before .before .before .check-book .ensures .0) _ (c .enum-told .given .1) in
     let w = p .1 .0 in
     absurd (let z : _≡_ {A = ℕ} 0 1 = cc in omega arith)
 
 count-checked-requires : tie.Need-count-checked-requires
 count-checked-requires c κs =
     let p = c .before .before .before .before .before .before .before .before .before .before .pre in
-    let k = c .before .before .before .before .before .before .check-book .ensures in
+    let k = c .before .before .before .before .before .before .check-book .ensures .0 in
     let e = c .before .before .check .given .1 in
     (checked-open k e (omega (arith, checked-few k e, p .0, c .before .before .before .before .before .offsets .given)), (checked-rest k e, p .1 .1))
 

@@ -23,12 +23,12 @@ same-length : tie.Need-same-length
 same-length c = search needs
 
 returns : tie.Need-returns
-returns c = let p = c .before .before .before .before .before .before .before .before .before .before .pre in let e = checked-refused _ _ _ (c .before .before .before .before .check-book .ensures) _ (c .enum-told .given .1) in let w = p .1 .0 .whole in absurd (let z : _≡_ {A = ℕ} 0 1 = cc in omega arith)
+returns c = let p = c .before .before .before .before .before .before .before .before .before .before .pre in let e = checked-refused _ _ _ (c .before .before .before .before .check-book .ensures .0) _ (c .enum-told .given .1) in let w = p .1 .0 .whole in absurd (let z : _≡_ {A = ℕ} 0 1 = cc in omega arith)
 
 list-checked-requires : tie.Need-list-checked-requires
 list-checked-requires c κs =
     let p = c .before .before .before .before .before .before .before .before .before .before .before .before .before .before .pre in
-    let k = c .before .before .before .before .before .before .before .before .check-book .ensures in
+    let k = c .before .before .before .before .before .before .before .before .check-book .ensures .0 in
     let e = c .before .before .before .before .check .given .1 in
     (checked-open k e (omega (arith, checked-few k e, p .0, c .before .before .before .before .before .before .before .offsets .given)), (checked-rest k e, p .1))
 

@@ -35,7 +35,7 @@ record-at-requires c κs = search needs
 allot-requires : tie.Need-allot-requires
 allot-requires c κs =
     let p = c .before .before .before .before .before .before .before .before .before .before .before .before .before .before .before .before .before .before .before .before .before .before .before .before .pre in
-    let k = c .before .before .before .before .before .before .before .before .before .before .before .before .before .check-book .ensures in
+    let k = c .before .before .before .before .before .before .before .before .before .before .before .before .before .check-book .ensures .0 in
     let e = c .before .before .before .before .before .before .before .before .before .check2 .given .1 in
     let o = checked-open k e (checked-room k e (λ B d. subst (λ (m : ℕ). B .counts .concepts ≤ m) (sym (c .before .before .before .before .before .before .before .before .before .before .before .before .offsets .given)) (p .0 B d))) in
     let r = c .before .before .before .before .before .before .before .record-at .ensures in
@@ -49,7 +49,7 @@ returns c =
     let s = c .before .before .before .before .before .before .before .before .before .before .before .before .before .before .before .before .before in
     let a = s .args in
     let p = s .pre in
-    rw (c .refused .ensures) (alone-effect (a .book .now) (a .line .now) (a .budget) (a .types .now) (a .edges .now) (a .pairs .now) (a .more-types .now) (a .more-edges .now) (a .more-pairs .now) _ (refused-book _ _ _ (decode (a .book .now)) _ (p .1 .low) (p .1 .edges) (p .1 .types) _ (checked-refused _ _ _ (c .before .before .before .before .before .before .check-book .ensures) _ (c .before .before .check .given .1))))
+    rw (c .refused .ensures) (alone-effect (a .book .now) (a .line .now) (a .budget) (a .types .now) (a .edges .now) (a .pairs .now) (a .more-types .now) (a .more-edges .now) (a .more-pairs .now) _ (refused-book _ _ _ (decode (a .book .now)) _ (p .1 .low) (p .1 .edges) (p .1 .types) _ (checked-refused _ _ _ (c .before .before .before .before .before .before .check-book .ensures .0) _ (c .before .before .check .given .1))))
 
 same-length-2 : tie.Need-same-length-2
 same-length-2 c = search needs
@@ -76,7 +76,7 @@ returns-2 : tie.Need-returns-2
 returns-2 c =
     let a = c .before .before .before .before .before .before .before .before .before .before .before .before .before .before .before .before .before .before .before .before .before .before .before .before .before .before .before .before .before .before .before .before .before .before .before .before .before .args in
     let p = c .before .before .before .before .before .before .before .before .before .before .before .before .before .before .before .before .before .before .before .before .before .before .before .before .before .before .before .before .before .before .before .before .before .before .before .before .before .pre in
-    let k = c .before .before .before .before .before .before .before .before .before .before .before .before .before .before .before .before .before .before .before .before .before .before .before .before .before .before .check-book .ensures in
+    let k = c .before .before .before .before .before .before .before .before .before .before .before .before .before .before .before .before .before .before .before .before .before .before .before .before .before .before .check-book .ensures .0 in
     let e = c .before .before .before .before .before .before .before .before .before .before .before .before .before .before .before .before .before .before .before .before .before .before .check2 .given .1 in
     let o = checked-open k e (checked-room k e (λ B d. subst (λ (m : ℕ). B .counts .concepts ≤ m) (sym (c .before .before .before .before .before .before .before .before .before .before .before .before .before .before .before .before .before .before .before .before .before .before .before .before .before .offsets .given)) (p .0 B d))) in
     c .before .before .before .before .before .before .before .before .before .before .before .before .allot .ensures ∙ effect-is (a .line .now) o (a .pairs .now) (a .more-types .now) (a .more-edges .now) (a .more-pairs .now) (p .1) _ (c .before .before .before .before .before .before .before .before .before .before .before .before .before .before .before .before .before .before .before .before .record-at .ensures)

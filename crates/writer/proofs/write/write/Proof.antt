@@ -29,17 +29,17 @@ front-of-requires : tie.Need-front-of-requires
 front-of-requires c κs = search needs
 
 write-accepted-requires : tie.Need-write-accepted-requires
-write-accepted-requires c κs = located (c .before .before .before .before .before .before .before .before .before .before .args .book .now) _ _ _ _ _ (c .before .before .before .before .before .offsets2 .given) (c .before .before .before .before .before .before .check-book .ensures) (c .before .before .before .checked2 .given .1) (c .before .front-of .ensures)
+write-accepted-requires c κs = located (c .before .before .before .before .before .before .before .before .before .before .args .book .now) _ _ _ _ _ (c .before .before .before .before .before .offsets2 .given) (c .before .before .before .before .before .before .check-book .ensures .0) (c .before .before .before .checked2 .given .1) (c .before .front-of .ensures)
 
 returns : tie.Need-returns
-returns c = writes-refused (c .before .before .before .before .before .before .before .before .args .book .now) (c .before .before .before .before .before .before .before .before .args .out .now) _ (checked-refused _ _ _ (c .before .before .before .before .check-book .ensures) _ (c .before .checked .given .1))
+returns c = writes-refused (c .before .before .before .before .before .before .before .before .args .book .now) (c .before .before .before .before .before .before .before .before .args .out .now) _ (checked-refused _ _ _ (c .before .before .before .before .check-book .ensures .0) _ (c .before .checked .given .1))
 
 same-length : tie.Need-same-length
 same-length c = search needs
 
 returns-2 : tie.Need-returns-2
 returns-2 c =
-    let k = checked-accepted _ _ _ (c .before .before .before .before .before .before .before .before .before .check-book .ensures) _ _ (c .before .before .before .before .before .before .checked2 .given .1) in
+    let k = checked-accepted _ _ _ (c .before .before .before .before .before .before .before .before .before .check-book .ensures .0) _ _ (c .before .before .before .before .before .before .checked2 .given .1) in
     c .before .before .write-accepted .ensures ∙ writes-accepted (c .before .before .before .before .before .before .before .before .before .before .before .before .before .args .book .now) (c .before .before .before .before .before .before .before .before .before .before .before .before .before .args .out .now) (k .0) (k .1)
 
 pub write-spec : {M : Type 1} → statement M
