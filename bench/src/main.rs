@@ -1,12 +1,14 @@
 //! The time of our library and of the Rust on the same books, and how ours grows.
 //!
 //!     bench [--worst] [--limit SECONDS] [--runs N]
+//!     bench books [worst]
 //!
 //! Ours is one call of the library: reading the book, the run, and filling and clearing lists as long as the book's
 //! bound needs. The Rust's is `saturate_with` alone, on an ontology that stands in memory; beside it stands the same
 //! with reading the book and building the ontology. Each is the median of its runs, in processor time. The Rust runs in
 //! a child process, which is ended where one run takes longer than the limit. With --worst stand instead the worst books
-//! known, ours alone, at the program's budget and at the highest: a child process too, under the same limit.
+//! known, ours alone, at the program's budget and at the highest: a child process too, under the same limit. The second
+//! form writes the books themselves, a line each, for bench/run-beside.
 
 mod books;
 mod clock;
@@ -198,6 +200,14 @@ fn worst_tables(options: &Options) {
     }
 }
 
+/// A line for each row of a table: its name, and for each of its books the bound, the individuals and the bytes.
+fn write_books(all: Vec<books::Named>) {
+    for named in all {
+        let cell = |b: &Book| format!("{} {} {}", b.bound(), b.counts[INDIVIDUALS], hex(&b.bytes()));
+        println!("{}\t{}", named.name, named.books.iter().map(cell).collect::<Vec<_>>().join("\t"));
+    }
+}
+
 fn milliseconds(time: Duration) -> String {
     let ms = time.as_secs_f64() * 1000.0;
     match ms {
@@ -288,6 +298,10 @@ fn main() -> ExitCode {
         }
         Some("ours") => {
             our_child(words[1].parse().expect("a number"), words[2].parse().expect("a number"));
+            Ok(())
+        }
+        Some("books") => {
+            write_books(if words.len() > 1 { worst::all() } else { books::all() });
             Ok(())
         }
         _ => options().map(|options| if options.worst { worst_tables(&options) } else { tables(&options) }),
