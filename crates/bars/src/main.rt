@@ -1,6 +1,8 @@
 // Runs the bars of its standard input, each a book behind its length, its budget and the lengths of its type, edge and pair list, as
 // little-endian numbers of 4, 8, 4, 4 and 4 bytes. Writes a bar's number and the text of its run as the program prints it, then what it
 // sees in the rest of the lists, every entry of which is 7 before the run.
+#![tactic(auto)]
+
 ghost use Rattle.std.specs.Prelude.{◌≡◌, true, ◌+◌, ◌*◌, ◌≤◌, ◌<◌, length, replicate};
 ghost use Rattle.io.specs.Counts.{IsPrefixLen};
 ghost use Rattle.bars.specs.Rest.{Only};
@@ -11,7 +13,7 @@ use saturation::saturate::saturate;
 use text::run::{put_run, type_part};
 use verdict::end::End;
 
-#[derive(Drop)]
+#[derive(Clone, Copy)]
 struct Bar {
     bytes: usize,
     budget: u64,
@@ -20,7 +22,7 @@ struct Bar {
     pairs: usize,
 }
 
-#[derive(Drop)]
+#[derive(Clone, Copy)]
 enum Next {
     Run(Bar),
     Done,

@@ -12,7 +12,7 @@ use super::header::{Counts, ReadHeader, header_at};
 use super::statement::{ReadStatement, statement_at};
 
 // The book's counts and the offset of its statements; or the number of its first fault.
-#[derive(Drop)]
+#[derive(Clone, Copy)]
 pub enum Checked {
     Accepted(Counts, usize),
     Refused(u8),

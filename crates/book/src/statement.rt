@@ -9,7 +9,7 @@ use super::role::{Role, role_of};
 use super::table::{ReadStart, Start, statement_allows};
 
 // The roles that lead from one end of a path to the other.
-#[derive(Drop)]
+#[derive(Clone, Copy)]
 pub enum SubRolePath {
     One(Role),
     Two(Role, Role),
@@ -17,7 +17,7 @@ pub enum SubRolePath {
 }
 
 // Concepts and individuals are named by number.
-#[derive(Drop)]
+#[derive(Clone, Copy)]
 pub enum Axiom {
     SubClassOf {
         sub: u32,
@@ -61,7 +61,7 @@ pub enum Axiom {
 }
 
 // A statement record: what it says, whose statement it was (0: the shared book), and the first and the last day on which it is in force.
-#[derive(Drop)]
+#[derive(Clone, Copy)]
 pub struct Statement {
     pub body: Axiom,
     pub source: u32,
@@ -69,7 +69,7 @@ pub struct Statement {
     pub last: u32,
 }
 
-#[derive(Drop)]
+#[derive(Clone, Copy)]
 pub enum ReadStatement {
     Next(Statement, usize),
     Refused(u8),

@@ -1,5 +1,7 @@
 // Runs the check over the books of its standard input, each behind its length in four bytes, and writes what was read: the refusal,
 // or the counts and, of a book of few records, each record as its kind and its fields in the order of their bits, a statement with its source and days.
+#![tactic(auto)]
+
 ghost use Rattle.std.specs.Prelude.{◌≤◌, length};
 
 use book::check::{Checked, check_book};
@@ -10,7 +12,7 @@ use book::role::{Role, field_of};
 use book::statement::{Axiom, Statement, SubRolePath};
 use libc::{STDIN_FILENO, STDOUT_FILENO};
 
-#[derive(Drop)]
+#[derive(Clone, Copy)]
 enum Length {
     Of(usize),
     End,

@@ -17,7 +17,7 @@ use book::statement::{Axiom, SubRolePath};
 
 // What a rule joins: nothing, where it looks at one premise at most; the edges of a path of two roles, or of three, into one of the last; the fillers of
 // two edges of one role.
-#[derive(Drop)]
+#[derive(Clone, Copy)]
 pub enum Chain {
     Alone,
     Pair(Role, Role, Role),

@@ -1,4 +1,6 @@
 // Derivations (request No. 6): rows of nine numbers, and the checker that says how many of them stand.
+#![tactic(auto)]
+
 mod chain; // rules that join two or three premises
 pub mod check; // the checker
 pub mod deep; // the leaves of each concept, at any depth of And

@@ -12,7 +12,7 @@ pub const NONE: u32 = 4294967295;
 pub const CLASH: u32 = 4294967294;
 
 // Rule, statement, three earlier rows, fact kind, and the fact's three numbers.
-#[derive(Drop)]
+#[derive(Clone, Copy)]
 pub struct Row {
     pub rule: u32,
     pub statement: u32,
@@ -148,7 +148,7 @@ pub fn names_earlier(k: usize, row: Row) -> bool
 }
 
 // The facts of the rows that a row names.
-#[derive(Drop)]
+#[derive(Clone, Copy)]
 pub struct Premises {
     pub one: u32,
     pub two: u32,

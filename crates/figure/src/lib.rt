@@ -1,4 +1,6 @@
 // What a book will need: a figure without a run, worked out on classes and roles alone.
+#![tactic(auto)]
+
 mod clause; // a statement as rules of three premises and one conclusion
 mod close; // the rules used until nothing is new
 mod cursor; // which of the facts held is used next

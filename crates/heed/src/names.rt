@@ -1,7 +1,7 @@
 // What a run names: a reader, if `named`, for whom a table is lent, and a day, if `dated`.
 ghost use Rattle.heed.specs.Names.{Fault};
 
-#[derive(Drop)]
+#[derive(Clone, Copy)]
 pub struct Names {
     pub named: bool,
     pub reader: u32,

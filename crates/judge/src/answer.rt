@@ -17,7 +17,7 @@ use said::layout::{Relation, layout_of, part_of};
 use verdict::end::End;
 
 // Shown or not, with the counts of the finished run; or the end of a run that does not finish.
-#[derive(Drop)]
+#[derive(Clone, Copy)]
 pub enum Answer {
     Shown(u32, u32, u32),
     NotShown(u32, u32, u32),
@@ -25,7 +25,7 @@ pub enum Answer {
 }
 
 // What is asked: whether the concept is shown for the individual.
-#[derive(Drop)]
+#[derive(Clone, Copy)]
 pub struct Question {
     pub individual: u32,
     pub concept: u32,

@@ -6,7 +6,7 @@ use book::concept::{ConceptExpr, Parts};
 use book::role::Role;
 use tables::concept::part_number;
 
-#[derive(Drop)]
+#[derive(Clone, Copy)]
 pub enum Way {
     Leaf,
     Inner(Role, u32),
@@ -15,7 +15,7 @@ pub enum Way {
 }
 
 // The parts of the concept `whole` from part `next` on, of `count`.
-#[derive(Drop)]
+#[derive(Clone, Copy)]
 pub struct Left {
     pub whole: usize,
     pub way: Way,

@@ -36,7 +36,7 @@ fn find_other(t: &[u64], size: Size, pairs: &[u64], x: usize, a: usize) -> usize
 }
 
 // Two classes of the individual `at` that clash; or no classes, where `other` is their number.
-#[derive(Drop)]
+#[derive(Clone, Copy)]
 struct Found {
     at: usize,
     one: usize,

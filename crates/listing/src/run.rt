@@ -27,7 +27,7 @@ use verdict::end::End;
 use verdict::list::{clear, list_types};
 
 // What a run came to: how many types, edges, same pairs and joinings, and whether it is a clash.
-#[derive(Drop)]
+#[derive(Clone, Copy)]
 pub struct Numbers {
     pub types: u32,
     pub edges: u32,

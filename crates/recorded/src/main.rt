@@ -1,5 +1,7 @@
 // Replays the Rust's recorded answers, which oracle/README.md lays out: each book of the standard input is run, and the end compared with
 // the record by the record's rule. A line for each record, and one for all.
+#![tactic(auto)]
+
 ghost use Rattle.std.specs.Prelude.{◌+◌, ◌*◌, ◌≤◌, length};
 
 use libc::{STDIN_FILENO, STDOUT_FILENO};
@@ -8,7 +10,7 @@ use verdict::end::End;
 
 // The numbers in front of a record: the length of the book, the rule of comparison, the Rust's verdict (1 is a clash), its type count,
 // and how many edges and pairs are recorded.
-#[derive(Drop)]
+#[derive(Clone, Copy)]
 struct Head {
     length: u16,
     rule: u16,
@@ -18,7 +20,7 @@ struct Head {
     pairs: u16,
 }
 
-#[derive(Drop)]
+#[derive(Clone, Copy)]
 enum Next {
     Record(Head),
     End,

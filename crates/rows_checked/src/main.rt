@@ -1,17 +1,19 @@
 // Checks the rows of its standard input: each time a book and rows, behind the book's length in bytes and the number of the rows' entries, all numbers
 // little-endian of 4 bytes. Prints a case's number and the answer.
+#![tactic(auto)]
+
 ghost use Rattle.std.specs.Prelude.{◌≡◌, ◌+◌, ◌*◌, ◌≤◌, length};
 
 use derivation::check::{Judgement, check_rows};
 use libc::{STDIN_FILENO, STDOUT_FILENO};
 
-#[derive(Drop)]
+#[derive(Clone, Copy)]
 struct Case {
     bytes: usize,
     entries: usize,
 }
 
-#[derive(Drop)]
+#[derive(Clone, Copy)]
 enum Next {
     Check(Case),
     Done,

@@ -1,4 +1,6 @@
 // The program: a book on standard input, its conclusions on standard output.
+#![tactic(auto)]
+
 ghost use Rattle.std.specs.Prelude.{◌≡◌, ◌+◌, ◌*◌, ◌≤◌, length, take};
 ghost use Rattle.io.specs.Counts.{IsPrefixLen};
 ghost use Rattle.rules.specs.Ends.{outcome};
@@ -12,7 +14,7 @@ use text::line::put_line;
 use text::run::put_run;
 
 // How many bytes were read, unless a read failed.
-#[derive(Drop)]
+#[derive(Clone, Copy)]
 enum Input {
     Bytes(usize),
     Failed,

@@ -1,4 +1,6 @@
 // The conclusions of a book: told facts and rules run to the smallest sets, and how a run ends.
+#![tactic(auto)]
+
 pub mod allot;
 pub mod collect;
 pub mod enter;

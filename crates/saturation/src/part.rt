@@ -6,7 +6,7 @@ ghost use Rattle.saturation.specs.Part.{part_of};
 
 use verdict::end::End;
 
-#[derive(Drop)]
+#[derive(Clone, Copy)]
 pub enum Named {
     Edges,
     Pairs,

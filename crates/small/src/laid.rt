@@ -3,7 +3,7 @@ ghost use Rattle.std.specs.Prelude.{◌≡◌, [], ◌∷◌, ◌<◌};
 ghost use Rattle.small.specs.Laying.{added};
 
 // The bytes so far, and 0 behind them.
-#[derive(Drop)]
+#[derive(Clone, Copy)]
 pub struct Laid {
     pub bytes: [u8; 37],
     pub length: usize,

@@ -10,14 +10,14 @@ use super::laid::Laid;
 use super::statement::put_statement;
 
 // A book of so many bytes; or none, as the position is past the last.
-#[derive(Drop)]
+#[derive(Clone, Copy)]
 pub enum Found {
     Book(usize),
     None,
 }
 
 // A book by value: its bytes stand at the front, and 0 behind them.
-#[derive(Drop)]
+#[derive(Clone, Copy)]
 pub struct SmallBook {
     pub bytes: [u8; 37],
     pub found: Found,

@@ -1,6 +1,8 @@
 // Puts every small book through the port: each is made by its position and run, and the end compared with the Rust's recorded answer, which
 // the standard input has in the layout of oracle/README.md; there is none to compare for kinds that the Rust has not. A line for each that differs,
 // and the sums.
+#![tactic(auto)]
+
 ghost use Rattle.std.specs.Prelude.{◌+◌, ◌*◌, ◌≤◌, length};
 
 use libc::{STDIN_FILENO, STDOUT_FILENO};
@@ -171,7 +173,7 @@ fn compared_at(records: &[u8], at: usize, position: u64, ours: u8) -> bool {
     compared(position, records[at], records[at + 1], ours)
 }
 
-#[derive(Drop)]
+#[derive(Clone, Copy)]
 enum Step {
     Compared(bool),
     End,

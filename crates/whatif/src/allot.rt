@@ -27,7 +27,7 @@ use saturation::run::{draw, read_off};
 use verdict::end::End;
 
 // What is asked: the counts of a checked book, where its statements start, the budget, and what was read of the record.
-#[derive(Drop)]
+#[derive(Clone, Copy)]
 pub struct Job {
     pub counts: Counts,
     pub from: usize,

@@ -8,20 +8,20 @@ use book::statement::{ReadStatement, Statement};
 use verdict::end::End;
 
 // The end of the copy's run, with what it has beyond the present one; it is run only where that finishes.
-#[derive(Drop)]
+#[derive(Clone, Copy)]
 pub enum Further {
     Alone,
     Ended(End),
 }
 
-#[derive(Drop)]
+#[derive(Clone, Copy)]
 pub struct Prospect {
     pub present: End,
     pub copy: Further,
 }
 
 // No copy is to be run; it is refused; or it is run with this statement.
-#[derive(Drop)]
+#[derive(Clone, Copy)]
 pub enum Step {
     Alone,
     Refused(u8),

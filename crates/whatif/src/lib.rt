@@ -1,4 +1,6 @@
 // What would this statement do? A run, and what a run of a copy of the book with one statement more has beyond it.
+#![tactic(auto)]
+
 mod allot;
 pub mod answer;
 mod copy;

@@ -6,7 +6,7 @@ ghost use Rattle.whatif.specs.Minus.{alike, minus, flat, Standing, Moved, Went};
 use verdict::list::clear;
 
 // How far the other list was passed, and how many entries are kept.
-#[derive(Drop)]
+#[derive(Clone, Copy)]
 struct Place {
     other: usize,
     kept: usize,

@@ -5,7 +5,7 @@ ghost use Rattle.writer.specs.Tree.{Tree, Searched, Kept};
 use super::record::{alike, digit};
 
 // A record is kept already; or it is not, and this place for a child is where it belongs.
-#[derive(Drop)]
+#[derive(Clone, Copy)]
 pub enum Found {
     Already,
     Free(usize),

@@ -11,7 +11,7 @@ use book::check::{Checked, check_book};
 use book::header::Counts;
 
 // The length of the written book, or the number of a refusal.
-#[derive(Drop)]
+#[derive(Clone, Copy)]
 pub enum Answer {
     Written(usize),
     Refused(u8),

@@ -1,17 +1,19 @@
 // Writes the books of its standard input, each behind its length and the number of bytes that are lent, both as little-endian numbers of
 // 4 bytes. Prints a row's number and the answer, then the lent bytes as they are after the call; each of them is 7 before it.
+#![tactic(auto)]
+
 ghost use Rattle.std.specs.Prelude.{◌≡◌, ◌+◌, ◌*◌, ◌≤◌, length, replicate};
 
 use libc::{STDIN_FILENO, STDOUT_FILENO};
 use writer::write::{Answer, write};
 
-#[derive(Drop)]
+#[derive(Clone, Copy)]
 struct Row {
     bytes: usize,
     lent: usize,
 }
 
-#[derive(Drop)]
+#[derive(Clone, Copy)]
 enum Next {
     Write(Row),
     Done,

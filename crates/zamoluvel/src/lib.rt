@@ -1,4 +1,6 @@
 // The open functions for callers in C and Rust (include/saturation.h), as one library. A slice is a pointer and a length.
+#![tactic(auto)]
+
 pub mod check_rows; // the checker of rows
 pub mod is; // is this individual of that concept?
 pub mod need; // what a book will need
