@@ -1,0 +1,10 @@
+-- `statement_at` meets its contract.
+use borrow.Author.Rules.{rules}
+use Rattle.book.proofs.statement.Ways.{statement_unstarted, statement_read}
+use Rattle.book.proofs.statement.statement_at.Goals as goal
+
+pub returns-in-Refused : goal.returns-in-Refused
+returns-in-Refused c = search statement_unstarted
+
+pub returns-in-Next : goal.returns-in-Next
+returns-in-Next c = search statement_read

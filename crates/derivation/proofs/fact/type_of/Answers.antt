@@ -1,0 +1,8 @@
+use mathlib.Core.Path.{refl}
+use borrow.Author.Rules.{rules}
+use Rattle.rules.specs.Fact.{type}
+use Rattle.derivation.proofs.fact.type_of.Goals as goal
+
+pub returns : goal.returns
+unfolding type
+returns c = refl

@@ -1,0 +1,8 @@
+use borrow.Author.Rules.{rules}
+use mathlib.Core.Path.{refl}
+use Rattle.derivation.specs.Fits.{two_fits_lem}
+use Rattle.derivation.proofs.rule.two_fits.Goals as goal
+
+pub returns : goal.returns
+unfolding two_fits_lem
+returns c = rw (c.edge_of.ensures, c.is_edge-2.ensures, c.is_edge.ensures, c.leads_to-d.ensures.0, c.leads_from-c.ensures.0, c.leads_to-b.ensures.0, c.leads_from-a.ensures.0) refl

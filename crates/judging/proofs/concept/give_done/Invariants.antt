@@ -1,0 +1,18 @@
+use borrow.Author.Rules.{rules}
+use Prim.Native.Nat.{ℕ, ◌-◌, ◌<◌, ◌≤◌}
+use native.Mathlib.Omega.{arith}
+use mathlib.Core.Path.{◌≡◌, refl, sym, ◌∙◌}
+use mathlib.Core.List.{List}
+use lib.ListN.{length}
+use Rattle.judging.specs.Way.{count_of_lem}
+use Rattle.judging.specs.Memo.{Memo, Passed}
+use Rattle.judging.proofs.Judging.{way_inside, way_role, way_lower, passed_more}
+use Rattle.judging.proofs.concept.give_done.Given as goal
+
+abbrev pub invariant-loop-next : goal.invariant-loop-next
+invariant-loop-next l = (l.next ≤ l.count) × (l.initial.next ≤ l.next) × (length l.acc ≡ length l.initial.acc) × ((g : List ℕ) → Memo l.book l.counts l.t g l.rows l.done → Passed l.book l.counts l.t g (record { whole = 0; l.way = l.way; l.count = l.count; l.next = l.initial.next }) l.next l.initial.acc l.acc)
+
+
+abbrev pub decreases-loop-next : goal.decreases-loop-next
+decreases-loop-next l = l.count - l.next
+

@@ -1,0 +1,14 @@
+use borrow.Author.Rules.{rules}
+use Prim.Native.Nat.{ℕ, ◌-◌, ◌≤◌}
+use native.Mathlib.Omega.{arith}
+use mathlib.Core.Path.{◌∙◌}
+use Rattle.tables.proofs.Open.{open_limits}
+use Rattle.judging.specs.Memo.{Further}
+use Rattle.judging.proofs.Judging.{further_none, further_then, shown_read}
+use Rattle.judging.proofs.concept.shown.Given as goal
+
+abbrev pub invariant-loop-j : goal.invariant-loop-j
+invariant-loop-j l = (l.j ≤ l.k) × Further l.book l.counts l.t l.groups l.initial.rows l.initial.done l.rows l.done
+
+abbrev pub decreases-loop-j : goal.decreases-loop-j
+decreases-loop-j l = l.k - l.j

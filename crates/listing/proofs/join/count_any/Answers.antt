@@ -1,0 +1,16 @@
+use Prim.Native.Nat.{ℕ}
+use mathlib.Core.Path.{◌≡◌}
+use native.Mathlib.Omega.{arith}
+use Rattle.book.proofs.Accepted.{checked_refused}
+use Rattle.tables.proofs.Open.{checked_open, checked_rest}
+use Rattle.derivation.proofs.Preparing.{checked_few}
+use borrow.Author.Rules.{rules}
+use Rattle.listing.proofs.join.count_any.Goals as goal
+
+pub returns-in_default : goal.returns-in_default
+returns-in_default c =
+    let e = checked_refused _ _ _ c.check_book-check.ensures.book_checked _ c.in_default.is in
+    absurd (let z : ◌≡◌ {A = ℕ} 0 1 = cc in omega arith)
+
+pub count_checked-requires : goal.count_checked-requires
+count_checked-requires c = record { fact = checked_open c.check_book-check.ensures.book_checked c.in-Accepted.is (omega (arith, checked_few c.check_book-check.ensures.book_checked c.in-Accepted.is, c.requires.in_bounds, c.offsets-1.given)); from_value = checked_rest c.check_book-check.ensures.book_checked c.in-Accepted.is; used_value = c.requires.used_value }

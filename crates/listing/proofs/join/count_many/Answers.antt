@@ -1,0 +1,30 @@
+use Rattle.saturation.proofs.allot.Words.{within, table_within, most_rows, large_fresh}
+use Rattle.listing.proofs.Counting.{joined_all}
+use Rattle.rules.proofs.Tests.{false_true}
+use Rattle.tables.proofs.Blank.{blank}
+use Rattle.derivation.proofs.Preparing.{enough}
+use Rattle.tables.proofs.Open.{open_limits}
+use native.Mathlib.Omega.{arith}
+use mathlib.Core.Path.{◌≡◌, refl, ap, sym, ◌∙◌, subst}
+use Prim.Native.Nat.{ℕ, ◌+◌, ◌-◌, ◌*◌, ◌≤◌, ◌<◌}
+use borrow.Author.Rules.{rules}
+use Rattle.listing.proofs.join.count_many.Goals as goal
+
+pub read_told-requires : goal.read_told-requires
+read_told-requires c = record { fact = c.requires.fact; from_value = c.requires.from_value; blank = (blank 32768, enough 32768 _ (omega (arith, (open_limits c.requires.fact).concepts_top)), enough 512 512 (omega arith)) }
+
+pub draw-requires : goal.draw-requires
+draw-requires c = let h = open_limits c.requires.fact in record { fact = rw c.whole_task.ensures (c.requires.fact, (c.requires.from_value, (λ e. false_true e, (large_fresh h (blank 531480) (table_within c.args.counts 66435 531480 (most_rows c.args.counts h) (omega arith)), within 4096 _ h.concepts_top)))); from_value = rw c.whole_task.ensures (c.requires.fact, (c.requires.from_value, (λ e. false_true e, (large_fresh h (blank 531480) (table_within c.args.counts 66435 531480 (most_rows c.args.counts h) (omega arith)), within 4096 _ h.concepts_top)))); ready = rw c.whole_task.ensures (c.requires.fact, (c.requires.from_value, (λ e. false_true e, (large_fresh h (blank 531480) (table_within c.args.counts 66435 531480 (most_rows c.args.counts h) (omega arith)), within 4096 _ h.concepts_top)))); fresh = rw c.whole_task.ensures (c.requires.fact, (c.requires.from_value, (λ e. false_true e, (large_fresh h (blank 531480) (table_within c.args.counts 66435 531480 (most_rows c.args.counts h) (omega arith)), within 4096 _ h.concepts_top)))); concepts_in_bounds = rw c.whole_task.ensures (c.requires.fact, (c.requires.from_value, (λ e. false_true e, (large_fresh h (blank 531480) (table_within c.args.counts 66435 531480 (most_rows c.args.counts h) (omega arith)), within 4096 _ h.concepts_top)))) }
+
+pub overflow_cast-counts : goal.overflow_cast-counts
+overflow_cast-counts c = let l = (open_limits c.requires.fact).individuals_top in omega arith
+
+pub count_all-requires : goal.count_all-requires
+count_all-requires c =
+    let l = (open_limits c.requires.fact).individuals_top in
+    (l, c.read_told.ensures.1, subst (λ (n : ℕ). c.args.counts.individuals ≤ n) (sym c.labels-2-1.given) (within 512 _ l))
+
+pub returns : goal.returns
+returns c =
+    let d = rw c.whole_task.ensures at c.draw.ensures.drawn in
+    c.count_all.ensures ∙ joined_all c.requires.fact d (omega (arith, c.requires.used_value)) c.read_told.ensures.0

@@ -1,0 +1,6 @@
+use native.Mathlib.Nat.{sub-zero}
+use borrow.Author.Rules.{rules}
+use Rattle.listing.proofs.run.clear_both.Goals as goal
+
+pub returns : goal.returns
+returns c = (rw sub-zero at c.clear.ensures, rw sub-zero at c.clear-2.ensures)

@@ -1,0 +1,17 @@
+use borrow.Author.Rules.{rules}
+use Prim.Native.Nat.{◌+◌, ◌-◌, ◌*◌, ◌≤◌}
+use mathlib.Core.Path.{◌≡◌, refl}
+use native.Mathlib.Omega.{arith}
+use lib.ListN.{length, get_or}
+use Rattle.rules.specs.Lists.{gather}
+use Rattle.verdict.specs.Listing.{Written}
+use Rattle.verdict.proofs.list.Writing.{written_none, written_as}
+use Rattle.text.specs.Text.{number}
+use Rattle.text.proofs.Puts.{gather_more}
+use Rattle.text.proofs.line.put_numbers.Given as goal
+
+abbrev pub invariant-loop-i : goal.invariant-loop-i
+invariant-loop-i l = (l.i ≤ length l.list) × ((l.here ≤ l.at + 11 * l.i) × Written l.initial.out l.at (gather l.i λ j. number (get_or l.list j 0)) l.out l.here)
+
+abbrev pub decreases-loop-i : goal.decreases-loop-i
+decreases-loop-i l = length l.list - l.i

@@ -1,0 +1,16 @@
+use borrow.Author.Rules.{rules}
+use Prim.Native.Nat.{◌+◌, ◌-◌, ◌≤◌}
+use mathlib.Core.Path.{◌≡◌}
+use native.Mathlib.Omega.{arith}
+use lib.ListN.{length, take}
+use Rattle.verdict.specs.Listing.{Written}
+use Rattle.verdict.proofs.list.Writing.{written_none, written_as}
+use Rattle.text.proofs.Puts.{word_more}
+use lib.Seq.{take-length}
+use Rattle.text.proofs.put.put_word.Given as goal
+
+abbrev pub invariant-loop-i : goal.invariant-loop-i
+invariant-loop-i l = (l.i ≤ length l.word) × ((l.here ≡ l.at + l.i) × Written l.initial.out l.at (take l.i l.word) l.out l.here)
+
+abbrev pub decreases-loop-i : goal.decreases-loop-i
+decreases-loop-i l = length l.word - l.i

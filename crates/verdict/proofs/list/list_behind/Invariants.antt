@@ -1,0 +1,18 @@
+use Prim.Native.Nat.{◌-◌, ◌<◌}
+use mathlib.Core.Bool.{◌&&◌}
+use lib.Dec.{ltb}
+use native.Mathlib.Omega.{arith}
+use borrow.Author.Rules.{rules}
+use Rattle.rows.specs.Row.{has}
+use Rattle.rules.specs.Fact.{two}
+use Rattle.rules.specs.Lists.{only, entries2}
+use Rattle.rules.proofs.Ended.{length_entries2}
+use Rattle.verdict.proofs.list.Gathers.{scan_behind, scan_on}
+use Rattle.verdict.proofs.list.Rows.{Listed, lays_two, members_start, members_more, members_room, listed_all}
+use Rattle.verdict.proofs.list.list_behind.Given as goal
+
+abbrev pub invariant-loop-b : goal.invariant-loop-b
+invariant-loop-b l = Listed entries2 (λ x. only (ltb l.first x && has l.t l.k x) (two l.first x)) (λ x. ltb l.first x && has l.t l.k x) l.n l.initial.list l.at l.b l.list l.i × (l.first < l.b)
+
+abbrev pub decreases-loop-b : goal.decreases-loop-b
+decreases-loop-b l = l.n - l.b

@@ -1,0 +1,14 @@
+use native.Mathlib.Omega.{arith}
+use lib.ListN.{length-set}
+use borrow.Author.Rules.{rules}
+use Rattle.verdict.proofs.list.Writing.{written_three}
+use Rattle.verdict.proofs.list.put_three.Goals as goal
+
+pub bounds-list-at-2 : goal.bounds-list-at-2
+bounds-list-at-2 c = simp length-set (omega arith)
+
+pub bounds-list-at-3 : goal.bounds-list-at-3
+bounds-list-at-3 c = simp length-set (omega arith)
+
+pub returns : goal.returns
+returns c = written_three _ _ _ _ _ c.requires.0

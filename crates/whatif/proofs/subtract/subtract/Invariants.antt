@@ -1,0 +1,16 @@
+use Prim.Native.Nat.{ℕ, ◌-◌, ◌≤◌}
+use native.Mathlib.Omega.{arith}
+use mathlib.Core.Path.{◌≡◌, refl, sym, ◌∙◌}
+use mathlib.Core.List.{List}
+use lib.ListN.{length}
+use Rattle.whatif.specs.Minus.{Standing}
+use Rattle.whatif.proofs.Minus.{Walked, walk_start, walk_room, walk_other, walk_low, walk_few, walk_on, walk_end, standing_room, went_len}
+use borrow.Author.Rules.{rules}
+use Rattle.whatif.proofs.subtract.subtract.Given as goal
+
+abbrev pub invariant-loop-i : goal.invariant-loop-i
+invariant-loop-i l =
+    ((xs ys : List (List ℕ)) → Standing l.width l.n l.initial.list xs → Standing l.width l.m l.other ys → Walked l.width l.n l.m xs ys l.list l.other l.i l.place.other l.place.kept) × (length l.list ≡ length l.initial.list)
+
+abbrev pub decreases-loop-i : goal.decreases-loop-i
+decreases-loop-i l = l.n - l.i

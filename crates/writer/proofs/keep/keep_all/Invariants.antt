@@ -1,0 +1,17 @@
+use Prim.Native.Nat.{ℕ, ◌+◌, ◌*◌, ◌-◌, ◌≤◌, ◌<◌}
+use native.Mathlib.Omega.{arith}
+use mathlib.Core.Path.{◌≡◌, refl, sym, ◌∙◌}
+use borrow.Author.Rules.{rules}
+use lib.ListN.{length}
+use Rattle.book.specs.Bytes.{Bytes}
+use Rattle.book.proofs.reader.Laws.{turn_goes}
+use Rattle.writer.specs.Gathering.{Gathering}
+use Rattle.writer.proofs.Going.{gathering_begin, gathering_end, gathering_room, gathering_over}
+use Rattle.writer.proofs.keep.keep_all.Given as goal
+
+abbrev pub invariant-loop-next : goal.invariant-loop-next
+invariant-loop-next l =
+    Gathering l.book l.counts l.start l.count l.child l.place l.size l.here × (length l.child ≡ length l.initial.child) × (length l.place ≡ length l.initial.place) × (length l.size ≡ length l.initial.size)
+
+abbrev pub decreases-loop-next : goal.decreases-loop-next
+decreases-loop-next l = length l.book - l.here
