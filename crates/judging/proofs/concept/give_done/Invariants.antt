@@ -10,9 +10,7 @@ use Rattle.judging.proofs.Judging.{way_inside, way_role, way_lower, passed_more}
 use Rattle.judging.proofs.concept.give_done.Given as goal
 
 abbrev pub invariant-loop-next : goal.invariant-loop-next
-invariant-loop-next l = (l.next ≤ l.count) × (l.initial.next ≤ l.next) × (length l.acc ≡ length l.initial.acc) × ((g : List ℕ) → Memo l.book l.counts l.t g l.rows l.done → Passed l.book l.counts l.t g (record { whole = 0; l.way = l.way; l.count = l.count; l.next = l.initial.next }) l.next l.initial.acc l.acc)
-
+invariant-loop-next l = (l.next ≤ l.count) × (l.initial.next ≤ l.next) × (length l.acc ≡ length l.initial.acc) × ((g : List ℕ) → Memo l.book l.counts l.t g l.rows l.done → Passed l.book l.counts l.t g (record { whole = 0; way = l.way; count = l.count; next = l.initial.next }) l.next l.initial.acc l.acc)
 
 abbrev pub decreases-loop-next : goal.decreases-loop-next
 decreases-loop-next l = l.count - l.next
-

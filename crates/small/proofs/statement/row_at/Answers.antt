@@ -2,6 +2,7 @@
 use native.Mathlib.Omega.{arith}
 use borrow.Author.Rules.{rules}
 use Rattle.book.specs.Role.{role_of_lem}
+use Rattle.book.specs.Statement.{axiom_of_lem, path_of_lem}
 use Rattle.small.specs.Statements.{small_statements, spare}
 use Rattle.small.specs.Laying.{row_of}
 use Rattle.small.proofs.Statements.{statements_count, row_at}

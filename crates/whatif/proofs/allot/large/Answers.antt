@@ -3,6 +3,7 @@ use native.Mathlib.Omega.{arith}
 use mathlib.Core.Path.{◌≡◌, sym, ◌∙◌, subst}
 use mathlib.Core.List.{[], ◌∷◌, ◌++◌}
 use lib.ListN.{length-replicate}
+use Rattle.book.specs.Statement.{as_statement}
 use Rattle.rules.specs.Spoken.{anyone}
 use Rattle.rules.proofs.Tests.{false_true}
 use Rattle.tables.specs.Open.{book_with}

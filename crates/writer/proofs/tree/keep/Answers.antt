@@ -9,18 +9,12 @@ use borrow.Author.Rules.{rules}
 use Rattle.writer.proofs.tree.keep.Goals as goal
 
 pub returns-then-count-eq0 : goal.returns-then-count-eq0
-returns-then-count-eq0 c =
-    record { tree_2 = (first c.args.book.now c.args.count c.args.child.now c.args.place.now c.args.size.now c.args.at c.args.n c.if-count-eq0.true c.requires.tree c.requires.count_in_bounds.4 c.requires.count_in_bounds.0 c.requires.count_in_bounds.1 c.requires.count_in_bounds.2
+returns-then-count-eq0 c = record { tree_2 = (first c.args.book.now c.args.count c.args.child.now c.args.place.now c.args.size.now c.args.at c.args.n c.if-count-eq0.true c.requires.tree c.requires.count_in_bounds.4 c.requires.count_in_bounds.0 c.requires.count_in_bounds.1 c.requires.count_in_bounds.2).0; kept = (first c.args.book.now c.args.count c.args.child.now c.args.place.now c.args.size.now c.args.at c.args.n c.if-count-eq0.true c.requires.tree c.requires.count_in_bounds.4 c.requires.count_in_bounds.0 c.requires.count_in_bounds.1 c.requires.count_in_bounds.2).1 }
   where
     first : (s : List ℕ) (count : ℕ) (child place size : List ℕ) (at n : ℕ) → count ≡ 0 → Tree s count child place size → at + n ≤ length s → 16 * (count + 1) ≤ length child → count < length place → count < length size → Tree s 1 child (set place 0 at) (set size 0 n) × Kept s count place size at n 1 (set place 0 at) (set size 0 n)
-    first s count child place size at n c.if-count-eq0.true t fits r₁ r₂ r₃ =
-        subst (λ (k : ℕ). Tree s (k + 1) child (set place k at) (set size k n) × Kept s count place size at n (k + 1) (set place k at) (set size k n)) c.if-count-eq0.true
-        (tree_first s count child place size t at n fits r₁ r₂ r₃ c.if-count-eq0.true, kept_new s count place size at n r₂ r₃ (λ k l m. omega arith))).0; kept = (first c.args.book.now c.args.count c.args.child.now c.args.place.now c.args.size.now c.args.at c.args.n c.if-count-eq0.true c.requires.tree c.requires.count_in_bounds.4 c.requires.count_in_bounds.0 c.requires.count_in_bounds.1 c.requires.count_in_bounds.2
-  where
-    first : (s : List ℕ) (count : ℕ) (child place size : List ℕ) (at n : ℕ) → count ≡ 0 → Tree s count child place size → at + n ≤ length s → 16 * (count + 1) ≤ length child → count < length place → count < length size → Tree s 1 child (set place 0 at) (set size 0 n) × Kept s count place size at n 1 (set place 0 at) (set size 0 n)
-    first s count child place size at n c.if-count-eq0.true t fits r₁ r₂ r₃ =
-        subst (λ (k : ℕ). Tree s (k + 1) child (set place k at) (set size k n) × Kept s count place size at n (k + 1) (set place k at) (set size k n)) c.if-count-eq0.true
-        (tree_first s count child place size t at n fits r₁ r₂ r₃ c.if-count-eq0.true, kept_new s count place size at n r₂ r₃ (λ k l m. omega arith))).1 }
+    first s count child place size at n z t fits r₁ r₂ r₃ =
+        subst (λ (k : ℕ). Tree s (k + 1) child (set place k at) (set size k n) × Kept s count place size at n (k + 1) (set place k at) (set size k n)) z
+        (tree_first s count child place size t at n fits r₁ r₂ r₃ z, kept_new s count place size at n r₂ r₃ (λ k l m. omega arith))
 
 pub returns-in_default : goal.returns-in_default
 returns-in_default c = record { tree_2 = c.requires.tree; kept = kept_old _ _ _ _ _ _ (c.search-found.ensures.already c.in_default.is) }
