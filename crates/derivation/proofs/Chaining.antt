@@ -7,7 +7,8 @@ use mathlib.Core.List.{List, [], ◌∷◌}
 use lib.Dec.{eqb}
 use borrow.Author.Tests.{eqb-true, eq-eqb}
 use denote.Enum.Declared.{tag_of}
-use types.Run.{OneOf, miss}
+use types.Run.{miss}
+use borrow.Enum.Refused.{Among, opened}
 use Rattle.book.specs.Book.{Book}
 use Rattle.book.specs.Header.{Limits}
 use Rattle.book.specs.Role.{role_id, flipped}
@@ -109,16 +110,16 @@ chain_fits B (NegativeObjectPropertyAssertion r a b) f g h k = refl
 abbrev pub lone : List ℕ
 lone = 0 ∷ 1 ∷ 2 ∷ 3 ∷ 6 ∷ 9 ∷ 10 ∷ 11 ∷ 12 ∷ 13 ∷ 14 ∷ 15 ∷ []
 
-pub alone_tag : (x : Axiom) → OneOf lone (tag_of the_type x) → Alone ≡ chain_of_lem x
+pub alone_tag : (x : Axiom) → Among lone (tag_of the_type x) → Alone ≡ chain_of_lem x
 alone_tag (SubClassOf c d) k = refl
 alone_tag (EquivalentClasses c d) k = refl
 alone_tag (DisjointClasses c d) k = refl
 alone_tag (InverseObjectProperties r s) k = refl
-alone_tag (SubObjectPropertyOf p t) k = absurd (miss lone 4 tt k)
-alone_tag (TransitiveRole r) k = absurd (miss lone 5 tt k)
+alone_tag (SubObjectPropertyOf p t) k = absurd (miss lone 4 tt (opened k))
+alone_tag (TransitiveRole r) k = absurd (miss lone 5 tt (opened k))
 alone_tag (SymmetricRole r) k = refl
-alone_tag (FunctionalRole r) k = absurd (miss lone 7 tt k)
-alone_tag (InverseFunctionalRole r) k = absurd (miss lone 8 tt k)
+alone_tag (FunctionalRole r) k = absurd (miss lone 7 tt (opened k))
+alone_tag (InverseFunctionalRole r) k = absurd (miss lone 8 tt (opened k))
 alone_tag (ObjectPropertyDomain r c) k = refl
 alone_tag (ObjectPropertyRange r c) k = refl
 alone_tag (SameIndividual a b) k = refl

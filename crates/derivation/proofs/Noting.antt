@@ -11,7 +11,8 @@ use lib.Seq.{take_all}
 use lib.Dec.{eqb}
 use borrow.Author.Tests.{eq-eqb, eqb-true}
 use denote.Enum.Declared.{tag_of}
-use types.Run.{OneOf, miss}
+use types.Run.{miss}
+use borrow.Enum.Refused.{Among, opened}
 use Rattle.book.specs.Book.{Book}
 use Rattle.book.specs.Header.{Limits}
 use Rattle.book.specs.Role.{role_id}
@@ -132,7 +133,7 @@ passes (ObjectPropertyAssertion r a b) k = record { quiet = refl; facts = λ g. 
 passes (DifferentIndividuals a b) k = absurd (let o : ◌≡◌ {A = ℕ} 0 1 = cc in omega arith)
 passes (NegativeObjectPropertyAssertion r a b) k = absurd (let o : ◌≡◌ {A = ℕ} 0 1 = cc in omega arith)
 
-pub quiet_tag : (x : Axiom) → OneOf passing (tag_of the_type x) → is_denial_lem x ≡ false
+pub quiet_tag : (x : Axiom) → Among passing (tag_of the_type x) → is_denial_lem x ≡ false
 quiet_tag (SubClassOf c d) k = refl
 quiet_tag (EquivalentClasses c d) k = refl
 quiet_tag (DisjointClasses c d) k = refl
@@ -147,13 +148,13 @@ quiet_tag (ObjectPropertyRange r c) k = refl
 quiet_tag (SameIndividual a b) k = refl
 quiet_tag (ClassAssertion c i) k = refl
 quiet_tag (ObjectPropertyAssertion r a b) k = refl
-quiet_tag (DifferentIndividuals a b) k = absurd (miss passing 14 tt k)
-quiet_tag (NegativeObjectPropertyAssertion r a b) k = absurd (miss passing 15 tt k)
+quiet_tag (DifferentIndividuals a b) k = absurd (miss passing 14 tt (opened k))
+quiet_tag (NegativeObjectPropertyAssertion r a b) k = absurd (miss passing 15 tt (opened k))
 
-pub put_nothing : {s : List ℕ} (x : Axiom) → OneOf passing (tag_of the_type x) → WithDenied x s s
+pub put_nothing : {s : List ℕ} (x : Axiom) → Among passing (tag_of the_type x) → WithDenied x s s
 put_nothing {s} x k = record { len = refl; facts = λ g. or-false (at s g) ∙ ap (λ b. at s g || b) (sym ((passes x (quiet_tag x k)).facts g)) }
 
-pub known_nothing : (x : Axiom) → OneOf passing (tag_of the_type x) → (B : Book) → false ≡ denies_known B x
+pub known_nothing : (x : Axiom) → Among passing (tag_of the_type x) → (B : Book) → false ≡ denies_known B x
 known_nothing x k = (passes x (quiet_tag x k)).known
 
 pub known_different : {h : Counts} {K : List ℕ} {x : Axiom} {y : Bool} (a b : ℕ) → x ≡ DifferentIndividuals a b → a < h.individuals → b < h.individuals

@@ -5,7 +5,8 @@ use mathlib.Core.Path.{◌≡◌, refl, ap, sym, subst, ◌∙◌}
 use mathlib.Core.List.{List, [], ◌∷◌, ◌++◌}
 use lib.ListN.{length, get_or}
 use denote.Enum.Declared.{tag_of}
-use types.Run.{OneOf, miss}
+use types.Run.{miss}
+use borrow.Enum.Refused.{Among, opened}
 use Rattle.book.specs.Book.{Book}
 use Rattle.book.specs.declared.header.Counts.{Counts}
 use Rattle.book.specs.declared.statement.Axiom.{Axiom}
@@ -45,16 +46,16 @@ module _ {h : Counts} {T J P F K : List ℕ} (n : Labelled h.individuals K) wher
   said_none : {f : Said} → f.pairs relation.Takers ≡ [] → f.pairs relation.Disjoint ≡ [] → f.pairs relation.Functional ≡ [] → f.same ≡ [] → WithSaid h f T J P F K T J P F K
   said_none t d f s = record { takers = rw t with_none; disjoint = rw d with_none; pairs = rw d with_none; functional = rw f with_none; labels = rw s (joins_none n) }
 
-  pub passed : (e : Entry) → OneOf passing (tag_of the_type e) → WithSaid h (of_entry e) T J P F K T J P F K
+  pub passed : (e : Entry) → Among passing (tag_of the_type e) → WithSaid h (of_entry e) T J P F K T J P F K
   passed Nothing k = said_none refl refl refl refl
-  passed (Functional f) k = absurd (miss passing 1 tt k)
-  passed (Disjoint c d) k = absurd (miss passing 2 tt k)
+  passed (Functional f) k = absurd (miss passing 1 tt (opened k))
+  passed (Disjoint c d) k = absurd (miss passing 2 tt (opened k))
   passed (Above f g) k = said_none refl refl refl refl
-  passed (Taker c x) k = absurd (miss passing 4 tt k)
+  passed (Taker c x) k = absurd (miss passing 4 tt (opened k))
   passed (Asserted c i) k = said_none refl refl refl refl
   passed (TwoRoles r s t) k = said_none refl refl refl refl
   passed (ThreeRoles r s u t) k = said_none refl refl refl refl
-  passed (Same a b) k = absurd (miss passing 8 tt k)
+  passed (Same a b) k = absurd (miss passing 8 tt (opened k))
   passed (Edge r a b) k = said_none refl refl refl refl
 
 pub put_same : {h : Counts} {T J P F K K' : List ℕ} {e : Entry} (a b : ℕ) → e ≡ Same a b → LabelsWith h.individuals K (two a b ∷ []) K' → WithSaid h (of_entry e) T J P F K T J P F K'

@@ -6,7 +6,8 @@ use mathlib.Core.Path.{◌≡◌, refl, ap, sym, ◌∙◌}
 use mathlib.Core.Bool.{Bool}
 use mathlib.Core.List.{List, [], ◌∷◌}
 use denote.Enum.Declared.{tag_of}
-use types.Run.{OneOf, miss}
+use types.Run.{miss}
+use borrow.Enum.Refused.{Among, opened}
 use Rattle.book.specs.Book.{Book}
 use Rattle.book.specs.declared.header.Counts.{Counts}
 use Rattle.rules.specs.Brought.{concept}
@@ -63,8 +64,8 @@ module _ {h : Counts} {B : Book} (inside : Inside B) (counts : B.counts ≡ h) {
 abbrev unfinished : List ℕ
 unfinished = 1 ∷ 2 ∷ 3 ∷ []
 
-pub not_finished : (x : Given) (b : Bool) → OneOf unfinished (tag_of the_type x) → Ended (end_of x) ≡ judged b (end_of x)
-not_finished (finished t e p) b k = absurd (miss unfinished 0 tt k)
+pub not_finished : (x : Given) (b : Bool) → Among unfinished (tag_of the_type x) → Ended (end_of x) ≡ judged b (end_of x)
+not_finished (finished t e p) b k = absurd (miss unfinished 0 tt (opened k))
 not_finished (clash t e) b k = refl
 not_finished spent b k = refl
 not_finished (refused n) b k = refl

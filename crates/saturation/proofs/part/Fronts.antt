@@ -5,7 +5,8 @@ use mathlib.Core.Path.{◌≡◌, refl, ap, sym}
 use mathlib.Core.List.{List, [], ◌∷◌}
 use lib.ListN.{length, take}
 use denote.Enum.Declared.{tag_of}
-use types.Run.{OneOf, miss}
+use types.Run.{miss}
+use borrow.Enum.Refused.{Among, opened}
 use Rattle.rules.specs.Ends.{edge_entries_lem, pair_entries_lem}
 use Rattle.verdict.specs.declared.end.End.{End}
 use Rattle.verdict.specs.declared.end.End.TheVariants.{Finished, Clash, Spent, Refused}
@@ -28,14 +29,14 @@ take-length (suc n) (x ∷ l) h = ap suc (take-length n l (omega arith))
 abbrev unfinished : List ℕ
 unfinished = 1 ∷ 2 ∷ 3 ∷ []
 
-pub no_edges : (e : End) → OneOf unfinished (tag_of the_type e) → ◌≡◌ {A = ℕ} 0 (edge_entries_lem (end_of e))
-no_edges (Finished t e p) k = absurd (miss unfinished 0 tt k)
+pub no_edges : (e : End) → Among unfinished (tag_of the_type e) → ◌≡◌ {A = ℕ} 0 (edge_entries_lem (end_of e))
+no_edges (Finished t e p) k = absurd (miss unfinished 0 tt (opened k))
 no_edges (Clash t e) k = refl
 no_edges Spent k = refl
 no_edges (Refused n) k = refl
 
-pub no_pairs : (e : End) → OneOf unfinished (tag_of the_type e) → ◌≡◌ {A = ℕ} 0 (pair_entries_lem (end_of e))
-no_pairs (Finished t e p) k = absurd (miss unfinished 0 tt k)
+pub no_pairs : (e : End) → Among unfinished (tag_of the_type e) → ◌≡◌ {A = ℕ} 0 (pair_entries_lem (end_of e))
+no_pairs (Finished t e p) k = absurd (miss unfinished 0 tt (opened k))
 no_pairs (Clash t e) k = refl
 no_pairs Spent k = refl
 no_pairs (Refused n) k = refl
