@@ -22,7 +22,7 @@ number_of-requires c = rw (c.size_of-size.ensures, c.field_of-f.ensures) (listed
 pub place_of-requires : goal.place_of-requires
 place_of-requires c =
     let k = rw (c.size_of-size.ensures, c.field_of-f.ensures) at c.row_of.ensures.0 in
-    let a = edge_can c.requires.listed c.args.role c.args.a c.args.b c.requires.role_within.0 c.requires.role_within.1 c.requires.role_within.2 in record { limits = rw (c.number_of.ensures, c.size_of-size.ensures, c.field_of-f.ensures) ((listed_limits c.requires.listed, listed_room c.requires.listed, listed_number c.requires.listed _ _ _ a), listed_place c.requires.listed _ _ _ a (passes (rw k at c.member.ensures) c.if-not-member.false-raw)); by_index = rw (c.number_of.ensures, c.size_of-size.ensures, c.field_of-f.ensures) ((listed_limits c.requires.listed, listed_room c.requires.listed, listed_number c.requires.listed _ _ _ a), listed_place c.requires.listed _ _ _ a (passes (rw k at c.member.ensures) c.if-not-member.false-raw)) }
+    let a = edge_can c.requires.listed c.args.role c.args.a c.args.b c.requires.role_within.0 c.requires.role_within.1 c.requires.role_within.2 in record { limits = rw (c.number_of.ensures, c.size_of-size.ensures, c.field_of-f.ensures) ((listed_limits c.requires.listed, listed_room c.requires.listed, listed_number c.requires.listed _ _ _ a)); by_index = rw (c.number_of.ensures, c.size_of-size.ensures, c.field_of-f.ensures) (listed_place c.requires.listed _ _ _ a (passes (rw k at c.member.ensures) c.if-not-member.false-raw)) }
 
 pub returns : goal.returns
 returns c = edge_there c.requires.listed c.args.role c.args.a c.args.b c.requires.role_within.0 c.requires.role_within.1 c.requires.role_within.2 _ (rw (c.number_of.ensures, c.size_of-size.ensures, c.field_of-f.ensures) at c.place_of.ensures)

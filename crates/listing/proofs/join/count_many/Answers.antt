@@ -14,7 +14,7 @@ pub read_told-requires : goal.read_told-requires
 read_told-requires c = record { fact = c.requires.fact; from_value = c.requires.from_value; blank = (blank 32768, enough 32768 _ (omega (arith, (open_limits c.requires.fact).concepts_top)), enough 512 512 (omega arith)) }
 
 pub draw-requires : goal.draw-requires
-draw-requires c = let h = open_limits c.requires.fact in record { fact = rw c.whole_task.ensures (c.requires.fact, (c.requires.from_value, (λ e. false_true e, (large_fresh h (blank 531480) (table_within c.args.counts 66435 531480 (most_rows c.args.counts h) (omega arith)), within 4096 _ h.concepts_top)))); from_value = rw c.whole_task.ensures (c.requires.fact, (c.requires.from_value, (λ e. false_true e, (large_fresh h (blank 531480) (table_within c.args.counts 66435 531480 (most_rows c.args.counts h) (omega arith)), within 4096 _ h.concepts_top)))); ready = rw c.whole_task.ensures (c.requires.fact, (c.requires.from_value, (λ e. false_true e, (large_fresh h (blank 531480) (table_within c.args.counts 66435 531480 (most_rows c.args.counts h) (omega arith)), within 4096 _ h.concepts_top)))); fresh = rw c.whole_task.ensures (c.requires.fact, (c.requires.from_value, (λ e. false_true e, (large_fresh h (blank 531480) (table_within c.args.counts 66435 531480 (most_rows c.args.counts h) (omega arith)), within 4096 _ h.concepts_top)))); concepts_in_bounds = rw c.whole_task.ensures (c.requires.fact, (c.requires.from_value, (λ e. false_true e, (large_fresh h (blank 531480) (table_within c.args.counts 66435 531480 (most_rows c.args.counts h) (omega arith)), within 4096 _ h.concepts_top)))) }
+draw-requires c = let h = open_limits c.requires.fact in record { fact = rw c.whole_task.ensures (c.requires.fact); from_value = rw c.whole_task.ensures (c.requires.from_value); ready = rw c.whole_task.ensures (λ e. false_true e); fresh = rw c.whole_task.ensures (large_fresh h (blank 531480) (table_within c.args.counts 66435 531480 (most_rows c.args.counts h) (omega arith))); concepts_in_bounds = rw c.whole_task.ensures (within 4096 _ h.concepts_top) }
 
 pub overflow_cast-counts : goal.overflow_cast-counts
 overflow_cast-counts c = let l = (open_limits c.requires.fact).individuals_top in omega arith
