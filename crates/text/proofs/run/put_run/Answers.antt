@@ -10,7 +10,7 @@ use Rattle.text.proofs.run.put_run.Goals as goal
 
 pub returns : goal.returns
 returns c =
-    let h : c.put_pairs.result ≤ length c.put_pairs.new.0 =
+    let h : c.put_pairs.result ≤ length c.put_pairs.new.out =
     omega (
       arith,
       c.put_pairs.ensures.upper_bound,

@@ -16,6 +16,6 @@ finish-requires c = record { table = c.requires.table; labelled = c.requires.lab
 
 pub returns : goal.returns
 returns c =
-    calm_outcome _ _ _ _ c.args.labels.now c.args.denied c.args.types.now c.args.edges.now c.args.pairs.now c.list_types-count.new.0
+    calm_outcome _ _ _ _ c.args.labels.now c.args.denied c.args.types.now c.args.edges.now c.args.pairs.now c.list_types-count.new.list
     c.clashing.ensures c.if-clashing.false
     c.types-1.given c.finish.ensures
