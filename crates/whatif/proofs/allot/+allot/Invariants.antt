@@ -1,0 +1,5 @@
+use Rattle.std.proofs.Common.{◌+◌, ◌-◌, ◌*◌}
+use Rattle.whatif.proofs.allot.+allot.Given as goal
+
+abbrev pub decreases-allot : goal.decreases-allot
+decreases-allot l = 3 - l.step
