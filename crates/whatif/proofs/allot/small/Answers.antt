@@ -30,11 +30,11 @@ begin-step-requires c = c.requires.admitted.low
 pub draw_small-again-requires : goal.draw_small-again-requires
 draw_small-again-requires c =
     let ran = c.read_off-end.ensures (heard_book anyone c.args.book.now) (heard_inside anyone c.requires.fact) c.requires.fact.counts c.draw-drawing.ensures.drawn in
-    let read = go_read c.requires.fact (as_statement c.args.job.read) c.args.pairs.now c.requires.admitted c.args.more-types.now c.args.more_edges.now c.args.more-pairs.now c.read_off-end.result _ _ _ ran c.begin-step.ensures c.in-Go.statement c.in-Go.is in
+    let read = go_read c.requires.fact (as_statement c.args.job.read) c.args.pairs.now c.requires.admitted c.args.more_types.now c.args.more_edges.now c.args.more_pairs.now c.read_off-end.result _ _ _ ran c.begin-step.ensures c.in-Go.statement c.in-Go.is in
     let in-counts = c.requires.within c.in-Go.statement read.0 read.1 in
     let rows = subst (λ (n : ℕ). total_rows (layout_of c.args.job.counts) * 8 ≤ n) (sym c.says-2-1.given) (small_lent_lem c.args.job.counts c.requires.small c.requires.counts_bound).room.rows in
     let room = subst (λ (n : ℕ). c.args.job.counts.statements * 4 + 4 ≤ n) (sym c.chains-2-1.given) (small_chain c.args.job.counts c.requires.small) in
-    let on = go_ongoing c.requires.fact (as_statement c.args.job.read) c.args.pairs.now c.requires.admitted c.args.more-types.now c.args.more_edges.now c.args.more-pairs.now c.read_off-end.result _ _ _ ran c.begin-step.ensures c.in-Go.statement c.in-Go.is c.requires.from_value c.draw-drawing.ensures.drawn c.draw-drawing.ensures.worked c.draw-drawing.ensures.from_value_2 rows room in record { fact = c.requires.fact; within = in-counts.0; goes = (heard anyone c.args.book.now, on); counts_bound = omega (arith, c.requires.small.classes, c.requires.small.roles, c.requires.small.individuals, c.requires.small.concepts) }
+    let on = go_ongoing c.requires.fact (as_statement c.args.job.read) c.args.pairs.now c.requires.admitted c.args.more_types.now c.args.more_edges.now c.args.more_pairs.now c.read_off-end.result _ _ _ ran c.begin-step.ensures c.in-Go.statement c.in-Go.is c.requires.from_value c.draw-drawing.ensures.drawn c.draw-drawing.ensures.worked c.draw-drawing.ensures.from_value_2 rows room in record { fact = c.requires.fact; within = in-counts.0; goes = (heard anyone c.args.book.now, on); counts_bound = omega (arith, c.requires.small.classes, c.requires.small.roles, c.requires.small.individuals, c.requires.small.concepts) }
 
 pub slice_bounds-read_on-end-in-Go-2 : goal.slice_bounds-read_on-end-in-Go-2
 slice_bounds-read_on-end-in-Go-2 c = sym (c.leaves-2-1.given ∙ length-replicate {0} {A = ℕ} 64 0)
@@ -42,36 +42,36 @@ slice_bounds-read_on-end-in-Go-2 c = sym (c.leaves-2-1.given ∙ length-replicat
 pub read_on-last-requires : goal.read_on-last-requires
 read_on-last-requires c =
     let ran = c.read_off-end.ensures (heard_book anyone c.args.book.now) (heard_inside anyone c.requires.fact) c.requires.fact.counts c.draw-drawing.ensures.drawn in
-    let read = go_read c.requires.fact (as_statement c.args.job.read) c.args.pairs.now c.requires.admitted c.args.more-types.now c.args.more_edges.now c.args.more-pairs.now c.read_off-end.result _ _ _ ran c.begin-step.ensures c.in-Go.statement c.in-Go.is in
+    let read = go_read c.requires.fact (as_statement c.args.job.read) c.args.pairs.now c.requires.admitted c.args.more_types.now c.args.more_edges.now c.args.more_pairs.now c.read_off-end.result _ _ _ ran c.begin-step.ensures c.in-Go.statement c.in-Go.is in
     let in-counts = c.requires.within c.in-Go.statement read.0 read.1 in
     let rows = subst (λ (n : ℕ). total_rows (layout_of c.args.job.counts) * 8 ≤ n) (sym c.says-2-1.given) (small_lent_lem c.args.job.counts c.requires.small c.requires.counts_bound).room.rows in
     let room = subst (λ (n : ℕ). c.args.job.counts.statements * 4 + 4 ≤ n) (sym c.chains-2-1.given) (small_chain c.args.job.counts c.requires.small) in
-    let on = go_ongoing c.requires.fact (as_statement c.args.job.read) c.args.pairs.now c.requires.admitted c.args.more-types.now c.args.more_edges.now c.args.more-pairs.now c.read_off-end.result _ _ _ ran c.begin-step.ensures c.in-Go.statement c.in-Go.is c.requires.from_value c.draw-drawing.ensures.drawn c.draw-drawing.ensures.worked c.draw-drawing.ensures.from_value_2 rows room in
-    let inside = in-counts.1 (go_few c.requires.fact (as_statement c.args.job.read) c.args.pairs.now c.requires.admitted c.args.more-types.now c.args.more_edges.now c.args.more-pairs.now c.read_off-end.result _ _ _ ran c.begin-step.ensures c.in-Go.statement c.in-Go.is) in
+    let on = go_ongoing c.requires.fact (as_statement c.args.job.read) c.args.pairs.now c.requires.admitted c.args.more_types.now c.args.more_edges.now c.args.more_pairs.now c.read_off-end.result _ _ _ ran c.begin-step.ensures c.in-Go.statement c.in-Go.is c.requires.from_value c.draw-drawing.ensures.drawn c.draw-drawing.ensures.worked c.draw-drawing.ensures.from_value_2 rows room in
+    let inside = in-counts.1 (go_few c.requires.fact (as_statement c.args.job.read) c.args.pairs.now c.requires.admitted c.args.more_types.now c.args.more_edges.now c.args.more_pairs.now c.read_off-end.result _ _ _ ran c.begin-step.ensures c.in-Go.statement c.in-Go.is) in
     let now = c.draw_small-again.ensures.drawn (heard anyone c.args.book.now) on in
-    let words = subst (λ (n : ℕ). total_rows (layout_of c.args.job.counts) * 8 ≤ n) (length-replicate {0} {A = ℕ} 1416 0) (small_lent_lem c.args.job.counts c.requires.small c.requires.counts_bound).room.rows in record { inside = (book_with c.args.book.now (heard anyone c.args.book.now ++ (c.in-Go.statement ∷ [])), copy_inside c.requires.fact c.in-Go.statement in-counts.0 inside, c.requires.fact.counts, now); counts_in_bounds = (subst (λ (n : ℕ). total_rows (layout_of c.args.job.counts) * 8 ≤ n) (sym c.says-in-Go-2-1.given) words, subst (λ (n : ℕ). c.args.job.counts.concepts ≤ n) (sym c.leaves-2-1.given) (within 64 _ c.requires.small.concepts)); admitted = go_admitted c.requires.fact (as_statement c.args.job.read) c.args.pairs.now c.requires.admitted c.args.more-types.now c.args.more_edges.now c.args.more-pairs.now c.read_off-end.result _ _ _ ran c.begin-step.ensures c.in-Go.statement c.in-Go.is }
+    let words = subst (λ (n : ℕ). total_rows (layout_of c.args.job.counts) * 8 ≤ n) (length-replicate {0} {A = ℕ} 1416 0) (small_lent_lem c.args.job.counts c.requires.small c.requires.counts_bound).room.rows in record { inside = (book_with c.args.book.now (heard anyone c.args.book.now ++ (c.in-Go.statement ∷ [])), copy_inside c.requires.fact c.in-Go.statement in-counts.0 inside, c.requires.fact.counts, now); counts_in_bounds = (subst (λ (n : ℕ). total_rows (layout_of c.args.job.counts) * 8 ≤ n) (sym c.says-in-Go-2-1.given) words, subst (λ (n : ℕ). c.args.job.counts.concepts ≤ n) (sym c.leaves-2-1.given) (within 64 _ c.requires.small.concepts)); admitted = go_admitted c.requires.fact (as_statement c.args.job.read) c.args.pairs.now c.requires.admitted c.args.more_types.now c.args.more_edges.now c.args.more_pairs.now c.read_off-end.result _ _ _ ran c.begin-step.ensures c.in-Go.statement c.in-Go.is }
 
 pub lessen-less-requires : goal.lessen-less-requires
 lessen-less-requires c =
     let ran = c.read_off-end.ensures (heard_book anyone c.args.book.now) (heard_inside anyone c.requires.fact) c.requires.fact.counts c.draw-drawing.ensures.drawn in
-    let read = go_read c.requires.fact (as_statement c.args.job.read) c.args.pairs.now c.requires.admitted c.args.more-types.now c.args.more_edges.now c.args.more-pairs.now c.read_off-end.result _ _ _ ran c.begin-step.ensures c.in-Go.statement c.in-Go.is in
+    let read = go_read c.requires.fact (as_statement c.args.job.read) c.args.pairs.now c.requires.admitted c.args.more_types.now c.args.more_edges.now c.args.more_pairs.now c.read_off-end.result _ _ _ ran c.begin-step.ensures c.in-Go.statement c.in-Go.is in
     let in-counts = c.requires.within c.in-Go.statement read.0 read.1 in
     let rows = subst (λ (n : ℕ). total_rows (layout_of c.args.job.counts) * 8 ≤ n) (sym c.says-2-1.given) (small_lent_lem c.args.job.counts c.requires.small c.requires.counts_bound).room.rows in
     let room = subst (λ (n : ℕ). c.args.job.counts.statements * 4 + 4 ≤ n) (sym c.chains-2-1.given) (small_chain c.args.job.counts c.requires.small) in
-    let on = go_ongoing c.requires.fact (as_statement c.args.job.read) c.args.pairs.now c.requires.admitted c.args.more-types.now c.args.more_edges.now c.args.more-pairs.now c.read_off-end.result _ _ _ ran c.begin-step.ensures c.in-Go.statement c.in-Go.is c.requires.from_value c.draw-drawing.ensures.drawn c.draw-drawing.ensures.worked c.draw-drawing.ensures.from_value_2 rows room in
-    let inside = in-counts.1 (go_few c.requires.fact (as_statement c.args.job.read) c.args.pairs.now c.requires.admitted c.args.more-types.now c.args.more_edges.now c.args.more-pairs.now c.read_off-end.result _ _ _ ran c.begin-step.ensures c.in-Go.statement c.in-Go.is) in
+    let on = go_ongoing c.requires.fact (as_statement c.args.job.read) c.args.pairs.now c.requires.admitted c.args.more_types.now c.args.more_edges.now c.args.more_pairs.now c.read_off-end.result _ _ _ ran c.begin-step.ensures c.in-Go.statement c.in-Go.is c.requires.from_value c.draw-drawing.ensures.drawn c.draw-drawing.ensures.worked c.draw-drawing.ensures.from_value_2 rows room in
+    let inside = in-counts.1 (go_few c.requires.fact (as_statement c.args.job.read) c.args.pairs.now c.requires.admitted c.args.more_types.now c.args.more_edges.now c.args.more_pairs.now c.read_off-end.result _ _ _ ran c.begin-step.ensures c.in-Go.statement c.in-Go.is) in
     let now = c.draw_small-again.ensures.drawn (heard anyone c.args.book.now) on in
-    λ m. go_filled c.requires.fact (as_statement c.args.job.read) c.args.pairs.now c.requires.admitted c.args.more-types.now c.args.more_edges.now c.args.more-pairs.now c.read_off-end.result _ _ _ ran c.begin-step.ensures c.in-Go.statement c.in-Go.is in-counts.0 inside c.read_on-last.result _ _ _ (c.read_on-last.ensures.pairs_after m (book_with c.args.book.now (heard anyone c.args.book.now ++ (c.in-Go.statement ∷ []))) (copy_inside c.requires.fact c.in-Go.statement in-counts.0 inside) c.requires.fact.counts now)
+    λ m. go_filled c.requires.fact (as_statement c.args.job.read) c.args.pairs.now c.requires.admitted c.args.more_types.now c.args.more_edges.now c.args.more_pairs.now c.read_off-end.result _ _ _ ran c.begin-step.ensures c.in-Go.statement c.in-Go.is in-counts.0 inside c.read_on-last.result _ _ _ (c.read_on-last.ensures.pairs_after m (book_with c.args.book.now (heard anyone c.args.book.now ++ (c.in-Go.statement ∷ []))) (copy_inside c.requires.fact c.in-Go.statement in-counts.0 inside) c.requires.fact.counts now)
 
 pub returns-in-Alone : goal.returns-in-Alone
 returns-in-Alone c =
     let ran = c.read_off-end.ensures (heard_book anyone c.args.book.now) (heard_inside anyone c.requires.fact) c.requires.fact.counts c.draw-drawing.ensures.drawn in
-    answer_alone c.requires.fact (as_statement c.args.job.read) c.args.pairs.now c.requires.admitted c.args.more-types.now c.args.more_edges.now c.args.more-pairs.now c.read_off-end.result _ _ _ ran c.begin-step.ensures c.in-Alone.is
+    answer_alone c.requires.fact (as_statement c.args.job.read) c.args.pairs.now c.requires.admitted c.args.more_types.now c.args.more_edges.now c.args.more_pairs.now c.read_off-end.result _ _ _ ran c.begin-step.ensures c.in-Alone.is
 
 pub returns-in-Refused : goal.returns-in-Refused
 returns-in-Refused c =
     let ran = c.read_off-end.ensures (heard_book anyone c.args.book.now) (heard_inside anyone c.requires.fact) c.requires.fact.counts c.draw-drawing.ensures.drawn in
-    answer_refused c.requires.fact (as_statement c.args.job.read) c.args.pairs.now c.requires.admitted c.args.more-types.now c.args.more_edges.now c.args.more-pairs.now c.read_off-end.result _ _ _ ran c.begin-step.ensures c.in-Refused.n c.in-Refused.is
+    answer_refused c.requires.fact (as_statement c.args.job.read) c.args.pairs.now c.requires.admitted c.args.more_types.now c.args.more_edges.now c.args.more_pairs.now c.read_off-end.result _ _ _ ran c.begin-step.ensures c.in-Refused.n c.in-Refused.is
 
 pub shape_of-types-in-Go : goal.shape_of-types-in-Go
 shape_of-types-in-Go c = c.types-1.given
@@ -85,13 +85,13 @@ shape_of-pairs-in-Go c = c.pairs-1.given
 pub returns-in-Go : goal.returns-in-Go
 returns-in-Go c =
     let ran = c.read_off-end.ensures (heard_book anyone c.args.book.now) (heard_inside anyone c.requires.fact) c.requires.fact.counts c.draw-drawing.ensures.drawn in
-    let read = go_read c.requires.fact (as_statement c.args.job.read) c.args.pairs.now c.requires.admitted c.args.more-types.now c.args.more_edges.now c.args.more-pairs.now c.read_off-end.result _ _ _ ran c.begin-step.ensures c.in-Go.statement c.in-Go.is in
+    let read = go_read c.requires.fact (as_statement c.args.job.read) c.args.pairs.now c.requires.admitted c.args.more_types.now c.args.more_edges.now c.args.more_pairs.now c.read_off-end.result _ _ _ ran c.begin-step.ensures c.in-Go.statement c.in-Go.is in
     let in-counts = c.requires.within c.in-Go.statement read.0 read.1 in
     let rows = subst (λ (n : ℕ). total_rows (layout_of c.args.job.counts) * 8 ≤ n) (sym c.says-2-1.given) (small_lent_lem c.args.job.counts c.requires.small c.requires.counts_bound).room.rows in
     let room = subst (λ (n : ℕ). c.args.job.counts.statements * 4 + 4 ≤ n) (sym c.chains-2-1.given) (small_chain c.args.job.counts c.requires.small) in
-    let on = go_ongoing c.requires.fact (as_statement c.args.job.read) c.args.pairs.now c.requires.admitted c.args.more-types.now c.args.more_edges.now c.args.more-pairs.now c.read_off-end.result _ _ _ ran c.begin-step.ensures c.in-Go.statement c.in-Go.is c.requires.from_value c.draw-drawing.ensures.drawn c.draw-drawing.ensures.worked c.draw-drawing.ensures.from_value_2 rows room in
-    let inside = in-counts.1 (go_few c.requires.fact (as_statement c.args.job.read) c.args.pairs.now c.requires.admitted c.args.more-types.now c.args.more_edges.now c.args.more-pairs.now c.read_off-end.result _ _ _ ran c.begin-step.ensures c.in-Go.statement c.in-Go.is) in
+    let on = go_ongoing c.requires.fact (as_statement c.args.job.read) c.args.pairs.now c.requires.admitted c.args.more_types.now c.args.more_edges.now c.args.more_pairs.now c.read_off-end.result _ _ _ ran c.begin-step.ensures c.in-Go.statement c.in-Go.is c.requires.from_value c.draw-drawing.ensures.drawn c.draw-drawing.ensures.worked c.draw-drawing.ensures.from_value_2 rows room in
+    let inside = in-counts.1 (go_few c.requires.fact (as_statement c.args.job.read) c.args.pairs.now c.requires.admitted c.args.more_types.now c.args.more_edges.now c.args.more_pairs.now c.read_off-end.result _ _ _ ran c.begin-step.ensures c.in-Go.statement c.in-Go.is) in
     let now = c.draw_small-again.ensures.drawn (heard anyone c.args.book.now) on in
-    answer_either c.requires.fact (as_statement c.args.job.read) c.args.pairs.now c.requires.admitted c.args.more-types.now c.args.more_edges.now c.args.more-pairs.now c.read_off-end.result _ _ _ ran c.begin-step.ensures c.in-Go.statement c.in-Go.is in-counts.0 inside on now c.draw_small-again.ensures.still c.lessen-less.result _ _ _
-    (λ m. answer_went c.requires.fact (as_statement c.args.job.read) c.args.pairs.now c.requires.admitted c.args.more-types.now c.args.more_edges.now c.args.more-pairs.now c.read_off-end.result _ _ _ ran c.begin-step.ensures c.in-Go.statement c.in-Go.is in-counts.0 inside c.read_on-last.result _ _ _ (c.read_on-last.ensures.pairs_after m (book_with c.args.book.now (heard anyone c.args.book.now ++ (c.in-Go.statement ∷ []))) (copy_inside c.requires.fact c.in-Go.statement in-counts.0 inside) c.requires.fact.counts now) c.lessen-less.result _ _ _ (c.lessen-less.ensures.more_pairs_after_2 m) (c.lessen-less.ensures.more_pairs_after_3 m))
+    answer_either c.requires.fact (as_statement c.args.job.read) c.args.pairs.now c.requires.admitted c.args.more_types.now c.args.more_edges.now c.args.more_pairs.now c.read_off-end.result _ _ _ ran c.begin-step.ensures c.in-Go.statement c.in-Go.is in-counts.0 inside on now c.draw_small-again.ensures.still c.lessen-less.result _ _ _
+    (λ m. answer_went c.requires.fact (as_statement c.args.job.read) c.args.pairs.now c.requires.admitted c.args.more_types.now c.args.more_edges.now c.args.more_pairs.now c.read_off-end.result _ _ _ ran c.begin-step.ensures c.in-Go.statement c.in-Go.is in-counts.0 inside c.read_on-last.result _ _ _ (c.read_on-last.ensures.pairs_after m (book_with c.args.book.now (heard anyone c.args.book.now ++ (c.in-Go.statement ∷ []))) (copy_inside c.requires.fact c.in-Go.statement in-counts.0 inside) c.requires.fact.counts now) c.lessen-less.result _ _ _ (c.lessen-less.ensures.more_pairs_after_2 m) (c.lessen-less.ensures.more_pairs_after_3 m))
     (λ m. c.lessen-less.ensures.more_pairs_after m ∙ c.read_on-last.ensures.pairs_after_2 m)

@@ -27,7 +27,7 @@ returns c =
     record {
       more_pairs_after = λ n. absurd (n _ _ _ c.in-Finished-second.is);
       more_pairs_after_2 = λ T E P U F Q a b.
-          removed T E P U F Q c.args.more-types.now c.args.more_edges.now c.args.more-pairs.now _ _ _ _ _ _
+          removed T E P U F Q c.args.more_types.now c.args.more_edges.now c.args.more_pairs.now _ _ _ _ _ _
           (c.subtract-u.ensures.0 (rows2 U) (rows2 T) (types_stand b c.in-Finished-second.is) (types_stand a c.in-Finished.is))
           (c.subtract-f.ensures.0 (rows3 F) (rows3 E) (edges_stand b c.in-Finished-second.is) (edges_stand a c.in-Finished.is))
           (c.subtract-q.ensures.0 (rows2 Q) (rows2 P) (pairs_stand b c.in-Finished-second.is) (pairs_stand a c.in-Finished.is));
