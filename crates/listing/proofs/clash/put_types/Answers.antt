@@ -14,7 +14,7 @@ pub number_of-requires : goal.number_of-requires
 number_of-requires c = rw (c.type_field.ensures, c.size_of-size.ensures) (listed_sized c.requires.listed, type_can c.requires.listed.table _ _ c.requires.two.0.at c.requires.two.0.one)
 
 pub place_of-first-requires : goal.place_of-first-requires
-place_of-first-requires c = record { limits = rw (c.number_of.ensures, c.type_field.ensures, c.size_of-size.ensures) ((listed_limits c.requires.listed, listed_room c.requires.listed, listed_number c.requires.listed _ _ _ (type_can c.requires.listed.table _ _ c.requires.two.0.at c.requires.two.0.one))); by_index = rw (c.number_of.ensures, c.type_field.ensures, c.size_of-size.ensures) (listed_place c.requires.listed _ _ _ (type_can c.requires.listed.table _ _ c.requires.two.0.at c.requires.two.0.one) c.requires.two.0.Has-one) }
+place_of-first-requires c = record { limits = rw (c.number_of.ensures, c.type_field.ensures, c.size_of-size.ensures) ((listed_limits c.requires.listed, listed_room c.requires.listed, listed_number c.requires.listed _ _ _ (type_can c.requires.listed.table _ _ c.requires.two.0.at c.requires.two.0.one))); by_index = rw (c.number_of.ensures, c.type_field.ensures, c.size_of-size.ensures) (listed_place c.requires.listed _ _ _ (type_can c.requires.listed.table _ _ c.requires.two.0.at c.requires.two.0.one) c.requires.two.0.has_one) }
 
 pub number_of-requires-2 : goal.number_of-requires-2
 number_of-requires-2 c = rw (c.type_field-2.ensures, c.size_of-size.ensures) (listed_sized c.requires.listed, type_can c.requires.listed.table _ _ c.requires.two.0.at c.requires.two.1)

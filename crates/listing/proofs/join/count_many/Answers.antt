@@ -1,3 +1,4 @@
+use lib.ListN.{length-replicate}
 use Rattle.saturation.proofs.allot.Words.{within, table_within, most_rows, large_fresh}
 use Rattle.listing.proofs.Counting.{joined_all}
 use Rattle.rules.proofs.Tests.{false_true}
@@ -28,3 +29,27 @@ pub returns : goal.returns
 returns c =
     let d = rw c.whole_task.ensures at c.draw.ensures.drawn in
     c.count_all.ensures ∙ joined_all c.requires.fact d (omega (arith, c.requires.used_value)) c.read_told.ensures.0
+
+pub slice_bounds-draw-end : goal.slice_bounds-draw-end
+slice_bounds-draw-end c = sym {0} (length-replicate {0} {A = ℕ} 1 0)
+
+pub slice_bounds-draw-end-2 : goal.slice_bounds-draw-end-2
+slice_bounds-draw-end-2 c = sym {0} (length-replicate {0} {A = ℕ} 4096 0)
+
+pub slice_bounds-draw-end-3 : goal.slice_bounds-draw-end-3
+slice_bounds-draw-end-3 c = sym {0} (length-replicate {0} {A = ℕ} 75784 0)
+
+pub slice_bounds-draw-end-4 : goal.slice_bounds-draw-end-4
+slice_bounds-draw-end-4 c = sym {0} (length-replicate {0} {A = ℕ} 16384 0)
+
+pub slice_bounds-draw-end-5 : goal.slice_bounds-draw-end-5
+slice_bounds-draw-end-5 c = sym {0} (length-replicate {0} {A = ℕ} 512 0)
+
+pub slice_bounds-draw-end-6 : goal.slice_bounds-draw-end-6
+slice_bounds-draw-end-6 c = sym {0} (length-replicate {0} {A = ℕ} 531480 0)
+
+pub slice_bounds-count_all-end : goal.slice_bounds-count_all-end
+slice_bounds-count_all-end c = sym {0} (c.read_told.auto.told ∙ length-replicate {0} {A = ℕ} 512 0)
+
+pub slice_bounds-count_all-end-2 : goal.slice_bounds-count_all-end-2
+slice_bounds-count_all-end-2 c = sym {0} (c.draw.auto.labels ∙ length-replicate {0} {A = ℕ} 512 0)
