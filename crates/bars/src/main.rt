@@ -7,11 +7,14 @@ ghost use Rattle.std.specs.Prelude.{◌≡◌, true, ◌+◌, ◌*◌, ◌≤◌
 ghost use Rattle.io.specs.Counts.{IsPrefixLen};
 ghost use Rattle.bars.specs.Rest.{Only};
 
-use libc::{STDIN_FILENO, STDOUT_FILENO};
 use saturation::part::{Named, named_part};
 use saturation::saturate::saturate;
 use text::run::{put_run, type_part};
 use verdict::end::End;
+
+const STDIN_FILENO: i32 = 0;
+
+const STDOUT_FILENO: i32 = 1;
 
 #[derive(Clone, Copy)]
 struct Bar {

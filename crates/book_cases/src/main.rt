@@ -10,7 +10,10 @@ use book::header::Counts;
 use book::reader::{Turn, next_statement};
 use book::role::{Role, field_of};
 use book::statement::{Axiom, Statement, SubRolePath};
-use libc::{STDIN_FILENO, STDOUT_FILENO};
+
+const STDIN_FILENO: i32 = 0;
+
+const STDOUT_FILENO: i32 = 1;
 
 #[derive(Clone, Copy)]
 enum Length {

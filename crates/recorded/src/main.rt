@@ -4,9 +4,12 @@
 
 ghost use Rattle.std.specs.Prelude.{◌+◌, ◌*◌, ◌≤◌, length};
 
-use libc::{STDIN_FILENO, STDOUT_FILENO};
 use saturation::saturate::saturate;
 use verdict::end::End;
+
+const STDIN_FILENO: i32 = 0;
+
+const STDOUT_FILENO: i32 = 1;
 
 // The numbers in front of a record: the length of the book, the rule of comparison, the Rust's verdict (1 is a clash), its type count,
 // and how many edges and pairs are recorded.

@@ -5,10 +5,13 @@
 
 ghost use Rattle.std.specs.Prelude.{◌+◌, ◌*◌, ◌≤◌, length};
 
-use libc::{STDIN_FILENO, STDOUT_FILENO};
 use saturation::saturate::saturate;
 use small::small::{Found, small_book};
 use verdict::end::End;
+
+const STDIN_FILENO: i32 = 0;
+
+const STDOUT_FILENO: i32 = 1;
 
 // No answer of a record: the run was spent or refused, or listed what no small book can have.
 const WRONG: u8 = 0xFF;

@@ -4,8 +4,11 @@
 
 ghost use Rattle.std.specs.Prelude.{◌≡◌, ◌+◌, ◌*◌, ◌≤◌, length, replicate};
 
-use libc::{STDIN_FILENO, STDOUT_FILENO};
 use writer::write::{Answer, write};
+
+const STDIN_FILENO: i32 = 0;
+
+const STDOUT_FILENO: i32 = 1;
 
 #[derive(Clone, Copy)]
 struct Row {
