@@ -8,10 +8,14 @@ ghost use Rattle.text.specs.Text.{printed};
 ghost use Rattle.saturate.specs.Input.{Within, Holds};
 ghost use Rattle.saturate.specs.Output.{zeros, output};
 
-use libc::{STDERR_FILENO, STDIN_FILENO, STDOUT_FILENO};
 use saturation::saturate::saturate;
+use std::io::{Read, Stdin};
 use text::line::put_line;
 use text::run::put_run;
+
+const STDOUT_FILENO: i32 = 1;
+
+const STDERR_FILENO: i32 = 2;
 
 // How many bytes were read, unless a read failed.
 #[derive(Clone, Copy)]
@@ -21,25 +25,23 @@ enum Input {
 }
 
 // One read, into the room behind the bytes that are there.
-fn read_more(room: &mut [u8], have: usize) -> Input
+fn read_more(stdin: &mut Stdin, room: &mut [u8], have: usize) -> Input
     requires { have ≤ length room.old }
     ensures { Within have (length room.old) result }
 {
-    let got = libc::read(STDIN_FILENO, &mut room[have..]);
-    if got < 0 {
-        return Input::Failed;
+    match stdin.read(&mut room[have..]) {
+        Ok(more) => Input::Bytes(have + more),
+        Err(_) => Input::Failed,
     }
-    let more = io::count(got, &room[have..]);
-    Input::Bytes(have + more)
 }
 
 // Reads until the input ends, in however many pieces it comes, or until the room is full.
-fn read_all(room: &mut [u8]) -> Input
+fn read_all(stdin: &mut Stdin, room: &mut [u8]) -> Input
     ensures { Holds room.new result }
 {
     let mut have: usize = 0;
     while have < room.len() {
-        let input = read_more(room, have);
+        let input = read_more(stdin, room, have);
         let Input::Bytes(n) = input else {
             return Input::Failed;
         };
@@ -112,10 +114,10 @@ fn reply(room: &[u8], n: usize, out: &mut [u8])
     print(&out[..k]);
 }
 
-fn serve(room: &mut [u8], out: &mut [u8])
+fn serve(stdin: &mut Stdin, room: &mut [u8], out: &mut [u8])
     requires { 312064 ≤ length out.old }
 {
-    let input = read_all(room);
+    let input = read_all(stdin, room);
     match input {
         Input::Bytes(n) => reply(room, n, out),
         Input::Failed => complain(b"standard input cannot be read\n"),
@@ -123,8 +125,9 @@ fn serve(room: &mut [u8], out: &mut [u8])
 }
 
 // One byte more than the longest book, to tell a longer one.
-fn main() {
+fn main(rt: HostRuntime) {
+    let mut stdin = rt.stdin();
     let mut room = [0u8; 65537];
     let mut out = [0u8; 312064];
-    serve(&mut room, &mut out);
+    serve(&mut stdin, &mut room, &mut out);
 }
