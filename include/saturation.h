@@ -1,7 +1,7 @@
 /* The conclusions of a book, told facts and rules run to the smallest sets; whether an individual is shown to be of a
  * concept; the book itself, cleaned; what a run of it will need; and rows of derivations, listed and checked.
  *
- * Link with libzamoluvel.a (`rt staticlib zamoluvel`). The functions keep nothing between calls, allocate
+ * Link with libzamoluvel.a (`tools/build zamoluvel`). The functions keep nothing between calls, allocate
  * nothing and may be called from several threads at once. A thread that calls them needs ZAMOLUVEL_STACK bytes of
  * stack, and for rows ZAMOLUVEL_ROWS_STACK; the default of many systems is enough for the first thread and not for others.
  * Both figures are measured, with the worst books that are known, and not proved. Each function is proved to meet its

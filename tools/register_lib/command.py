@@ -422,7 +422,7 @@ def needed_budget(data):
 def run_program(path, data, book):
     program = pathlib.Path(path or PROGRAM)
     if not path and not program.exists():
-        raise Stop(NOT_RUN, 'the program target/bin/saturate is not built; `rt check saturate` builds it; or name one with '
+        raise Stop(NOT_RUN, 'the program target/bin/saturate is not built; `tools/build saturate` builds it; or name one with '
                    '--program (tools/saturate-reference is a slow stand-in)')
     try:
         # a path without a directory is one in this directory, not one to search for

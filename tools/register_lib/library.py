@@ -10,7 +10,7 @@ from collections import namedtuple
 from concurrent.futures import ThreadPoolExecutor
 
 NAME = 'zamoluvel'  # of the crate that it is built from
-BUILD = f'rt staticlib {NAME}'
+BUILD = f'tools/build {NAME}'
 ARCHIVE = pathlib.Path(__file__).resolve().parent.parent.parent / 'target' / 'staticlib' / f'lib{NAME}.a'
 CC = os.environ.get('CC') or 'cc'
 STACK = 16 << 20  # bytes for a call; the header asks for less

@@ -93,7 +93,7 @@ class Conclusions(FileCase):
                 self.assertEqual((status, out), (2, ''))
                 self.assertIn(words, err)
             with mock.patch.object(command, 'PROGRAM', pathlib.Path(folder, 'none')):
-                self.assertIn('is not built; `rt check saturate` builds it', register('conclude', EXAMPLES[0])[2])
+                self.assertIn('is not built; `tools/build saturate` builds it', register('conclude', EXAMPLES[0])[2])
 
     def test_budgets(self):
         """Budgets that are none, and a library that is not built."""
@@ -104,7 +104,7 @@ class Conclusions(FileCase):
             library.opened.cache_clear()
             status, out, err = register('conclude', '--budget', '5', EXAMPLES[0])
             self.assertEqual((status, out), (2, ''))
-            self.assertRegex(err, r'^the library target/staticlib/lib\w+\.a is not built; `rt staticlib \w+` builds it, ')
+            self.assertRegex(err, r'^the library target/staticlib/lib\w+\.a is not built; `tools/build \w+` builds it, ')
 
 
 class Programs(unittest.TestCase):

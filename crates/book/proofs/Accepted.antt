@@ -16,7 +16,6 @@ use Rattle.book.specs.declared.statement.SubRolePath.TheVariants.{One, Two, Thre
 use Rattle.book.specs.declared.statement.Axiom.TheVariants.{SubClassOf, EquivalentClasses, DisjointClasses, InverseObjectProperties, SubObjectPropertyOf, TransitiveRole, SymmetricRole, FunctionalRole, InverseFunctionalRole, ObjectPropertyDomain, ObjectPropertyRange, SameIndividual, ClassAssertion, ObjectPropertyAssertion, DifferentIndividuals, NegativeObjectPropertyAssertion}
 use Rattle.book.specs.declared.statement.Statement.{Statement}
 use Rattle.book.specs.declared.check.Checked.{Checked}
-use Rattle.book.specs.declared.check.Checked.TheVariants as Checked
 use Rattle.book.specs.Read.{Read, value, refusal, several}
 use Rattle.book.specs.Field.{number_at_lem}
 use Rattle.book.specs.Header.{counting, header, Limits}

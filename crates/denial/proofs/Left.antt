@@ -15,7 +15,7 @@ use Rattle.book.specs.declared.role.Role.{Role}
 use Rattle.book.specs.declared.statement.Statement.{Statement}
 use Rattle.rows.specs.Table.{base, leads, Table}
 use Rattle.rows.proofs.table.Sizes.{row_room, wide_other}
-use Rattle.rules.specs.Fact.{edge, pair, cap}
+use Rattle.rules.specs.Fact.{edge, pair}
 use Rattle.rules.specs.Rule.{Set, some}
 use Rattle.rules.specs.Clash.{denied_by}
 use Rattle.rules.specs.Spoken.{Reader, heedings}

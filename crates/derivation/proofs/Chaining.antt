@@ -10,8 +10,6 @@ use denote.Enum.Declared.{tag_of}
 use types.Run.{miss}
 use borrow.Enum.Refused.{Among, opened}
 use Rattle.book.specs.Book.{Book}
-use Rattle.book.specs.Header.{Limits}
-use Rattle.book.specs.Role.{role_id, flipped}
 use Rattle.book.specs.declared.header.Counts.{Counts}
 use Rattle.book.specs.declared.role.Role.{Role}
 use Rattle.book.specs.declared.role.Role.TheVariants.{Named, Inverse}
@@ -24,7 +22,7 @@ use Rattle.rules.proofs.Tests.{false_true, not-true, or_left, or_right, and_both
 use Rattle.derivation.specs.declared.chain.Chain.{Chain}
 use Rattle.derivation.specs.declared.chain.Chain.TheVariants.{Alone, Pair, Triple, Fillers}
 use Rattle.derivation.specs.Chained.{chain_of_lem, chain_fits_lem}
-use Rattle.derivation.specs.Fits.{leads_from_lem, leads_to_lem, is_edge_lem, one_fits_lem, two_fits_lem, three_fits_lem, join_fits_lem, fits, one_of_three, any_order, any_two}
+use Rattle.derivation.specs.Fits.{leads_from_lem, leads_to_lem, is_edge_lem, two_fits_lem, three_fits_lem, join_fits_lem, fits, one_of_three, any_order, any_two}
 use Rattle.derivation.proofs.Fitting.{edge_from}
 
 -- ---- one of three

@@ -1,5 +1,5 @@
 -- What the statements deny, put down one by one, and looked up.
-use Prim.Native.Nat.{ℕ, zero, suc, ◌+◌, ◌*◌, ◌/◌, ◌%◌, ◌<◌, ◌≤◌}
+use Prim.Native.Nat.{ℕ, zero, suc, ◌+◌, ◌/◌, ◌%◌, ◌<◌, ◌≤◌}
 use native.Mathlib.Decide.{ℕ_discrete}
 use native.Mathlib.Numerals.{add-one}
 use native.Mathlib.Omega.{arith}
@@ -29,7 +29,6 @@ use Rattle.rows.specs.Row.{bit, at, Put}
 use Rattle.rows.proofs.row.Bits.{bit_zero}
 use Rattle.rules.specs.Fact.{edge, pair}
 use Rattle.rules.specs.Rule.{some}
-use Rattle.rules.specs.ToldSame.{same}
 use Rattle.rules.proofs.Facts.{edge_lt, pair_lt}
 use Rattle.rules.proofs.Tests.{not-true, or_left, or_right}
 use Rattle.tables.specs.Open.{book_of}
@@ -37,7 +36,7 @@ use Rattle.tables.specs.Tables.{Blank}
 use Rattle.tables.proofs.Blank.{blank}
 use Rattle.tables.proofs.Members.{some_same}
 use Rattle.derivation.specs.Accept.{statements, member}
-use Rattle.derivation.specs.Fits.{joins, changes, deny_fits, one_of_three}
+use Rattle.derivation.specs.Fits.{changes, deny_fits, one_of_three}
 use Rattle.derivation.specs.Judging.{denial_fits}
 use Rattle.derivation.specs.Tables.{Starts, told_same_lem, LabelsOf}
 use Rattle.derivation.specs.Denied.{is_denial_lem, denies_fact, denies_known, WithDenied, PutAt, Denied}

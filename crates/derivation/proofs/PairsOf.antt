@@ -18,7 +18,7 @@ use Rattle.book.specs.declared.role.Role.TheVariants.{Named, Inverse}
 use Rattle.rows.specs.Row.{has}
 use Rattle.rules.specs.Fact.{Two as Pair, two}
 use Rattle.rules.specs.Rule.{any, some}
-use Rattle.rules.specs.Brought.{concept, from, Marker, markers}
+use Rattle.rules.specs.Brought.{concept, from, Marker}
 use Rattle.rules.specs.Same.{functional_by, functional}
 use Rattle.rules.specs.Clash.{disjoint_by, disjoint}
 use Rattle.rules.proofs.Tests.{false_true, both_ways, or_cases, or_left, or_right, and_both, and_intro, any_some, some_any}

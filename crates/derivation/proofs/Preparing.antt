@@ -12,7 +12,6 @@ use Rattle.book.specs.declared.header.Counts.{Counts}
 use Rattle.book.specs.declared.check.Checked.{Checked}
 use Rattle.book.specs.declared.check.Checked.TheVariants.{Accepted, Refused}
 use Rattle.book.proofs.Accepted.{accepted_limits, checked_accepted, checked_refused}
-use Rattle.rows.specs.Row.{at}
 use Rattle.rules.specs.Rule.{any}
 use Rattle.rules.specs.Brought.{concept, Value, from, atomic_of, atomics, values}
 use Rattle.rules.specs.ToldSame.{same_by, labels, label, same}

@@ -1,5 +1,5 @@
 -- A book with all individuals made one: every individual's number is 0, in statements and in Nominals.
-use Rattle.std.specs.Prelude.{ℕ, zero, suc, List, map}
+use Rattle.std.specs.Prelude.{ℕ, zero, suc, map}
 use Rattle.book.specs.Tree.{Concept, Concepts, Top, Bot, Atomic, Nominal, SelfRestriction, Not, And, Or, Some, All, Min, Max, none, more}
 use Rattle.book.specs.Book.{Book}
 use Rattle.book.specs.declared.header.Counts.{Counts}

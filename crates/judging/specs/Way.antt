@@ -1,13 +1,11 @@
 -- How a record is judged: by the row that it starts from, and by its parts, each mixed into it.
-use Rattle.std.specs.Prelude.{ℕ, ◌+◌, ◌-◌, ◌*◌, ◌<◌, ◌≤◌, ◌≡◌, Bool, true, false, ◌&&◌, ◌||◌, List, length, eqb}
+use Rattle.std.specs.Prelude.{ℕ, ◌+◌, ◌-◌, ◌*◌, ◌<◌, ◌≤◌, Bool, true, false, ◌&&◌, ◌||◌, List, length, eqb}
 use Rattle.book.specs.Read.{pick}
 use Rattle.book.specs.Field.{number_at_lem}
 use Rattle.book.specs.Tree.{Concept, nth, part_trees}
 use Rattle.book.specs.Tree as tree
 use Rattle.book.specs.Within.{RoleWithin, PartsWithin}
 use Rattle.book.specs.declared.header.Counts.{Counts}
-use Rattle.book.specs.declared.role.Role.{Role}
-use Rattle.book.specs.declared.concept.Parts.{Parts}
 use Rattle.book.specs.declared.concept.ConceptExpr.{ConceptExpr}
 use Rattle.book.specs.declared.concept.ConceptExpr.TheVariants.{Top, Bot, Atomic, Nominal, SelfRestriction, Not, And, Or, Some, All, Min, Max}
 use Rattle.rules.specs.Fact.{edge, type}

@@ -20,7 +20,6 @@ use Rattle.book.specs.Book.{Book, concepts, book, Decoded, refused, accepted, de
 use Rattle.rules.specs.Fact.{edge, type, pair}
 use Rattle.rules.specs.Rule.{Set, Rule, keep, when, each, both, Obeys, yields}
 use Rattle.rules.specs.Brought.{atomics, values, markers}
-use Rattle.rules.specs.ToldSame.{labels, label, same}
 use Rattle.rules.specs.Meaning.{rules, conclusions}
 use Rattle.rules.specs.Same.{same_pair}
 use Rattle.rules.specs.Clash.{marked, type_clash, marker_clash, clashes}

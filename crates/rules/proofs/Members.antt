@@ -1,6 +1,6 @@
 -- A run depends on the statements of a book as a set: order, repeats, sources and days change nothing, and neither does their number in the header.
 use Prim.Native.Nat.{ℕ, ◌+◌}
-use lib.Dec.{ltb, eqb}
+use lib.Dec.{eqb}
 use mathlib.Core.Path.{◌≡◌, refl, sym, ap, ap₂, ◌∙◌, subst, fun_ext}
 use mathlib.Core.Bool.{Bool, true, false, not, ◌&&◌, ◌||◌}
 use mathlib.Core.List.{List, [], ◌∷◌}
@@ -14,20 +14,18 @@ use Rattle.book.specs.Header.{counting}
 use Rattle.book.specs.Within.{Every}
 use Rattle.book.specs.Statement.{bodies}
 use Rattle.book.specs.Book.{Book, axioms}
-use Rattle.rules.specs.Fact.{Two, Three, edge, type}
+use Rattle.rules.specs.Fact.{Two, Three, type}
 use Rattle.rules.specs.Rule.{Set, Rule, Obeys, any, some, every}
 use Rattle.rules.specs.Brought.{from}
-use Rattle.rules.specs.ToldSame.{same_by, told_same_lem, label, same}
-use Rattle.rules.specs.Same.{functional_by, functional, same_pair}
-use Rattle.rules.specs.Clash.{disjoint_by, disjoint, marks_by, marked, type_clash, both_marked, marker_clash, denied_by, denied, clashes, Mark}
-use Rattle.rules.specs.Meaning.{rule_of, sharing, rules, conclusions}
+use Rattle.rules.specs.Same.{functional_by, functional}
+use Rattle.rules.specs.Clash.{disjoint_by, disjoint, marks_by, marked, type_clash, both_marked, marker_clash, denied_by, clashes, Mark}
+use Rattle.rules.specs.Meaning.{rule_of, rules, conclusions}
 use Rattle.rules.specs.Lists.{types, edges, pairs, used}
 use Rattle.rules.specs.Ends.{outcome_from}
 use Rattle.rules.proofs.Tests.{both_ways, some_none, every_from, from_every}
 use Rattle.rules.proofs.Least.{every_obeys, obeys_every}
 use Rattle.rules.proofs.Inside.{Inside}
 use Rattle.rules.proofs.Conclusions.{conclusions_obey, conclusions_least}
-use Rattle.rules.proofs.Labels.{Related, label_told, same_smallest, same_of}
 
 pub none_some : {A : Type 0} (f : A → Bool) (l : List A) → Every (λ x. f x ≡ false) l → some l f ≡ false
 none_some f [] h = refl

@@ -14,7 +14,6 @@ use Rattle.book.specs.Book.{concepts, book, decode}
 use Rattle.book.specs.Within.{Every}
 use Rattle.rules.specs.Fact.{edge, type, pair}
 use Rattle.rules.specs.Brought.{atomics, values, markers}
-use Rattle.rules.specs.ToldSame.{labels, label, same}
 use Rattle.rules.specs.Meaning.{rules}
 use Rattle.rules.specs.Same.{same_pair}
 use Rattle.rules.specs.Clash.{marked, type_clash, marker_clash, clashes}

@@ -20,7 +20,7 @@ use Rattle.rules.specs.Brought.{from}
 use Rattle.rules.specs.Lists.{only}
 use Rattle.rules.specs.Ends.{Refused, Clash, Finished, untouched, outcome_of, outcome}
 use Rattle.rules.specs.Demand.{Clashed, Demand}
-use Rattle.rules.specs.Spoken.{Who, whoever, one, Day, always, on, Reader, anyone, anyone_on, readable, readable_by, in_force_lem, in_force_on, heeded, heedings, readables, spoken, spoken_of, admitted, decode_for, outcome_for}
+use Rattle.rules.specs.Spoken.{Who, whoever, one, Day, Reader, anyone, anyone_on, readable, readable_by, in_force_lem, in_force_on, heeded, heedings, readables, spoken, spoken_of, admitted, decode_for, outcome_for}
 use Rattle.rules.proofs.Inside.{Inside, accepted_inside}
 use Rattle.rules.proofs.Demand.{demand_of}
 

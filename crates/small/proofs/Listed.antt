@@ -1,5 +1,5 @@
 -- THE LIST IS RIGHT: each entry is a small book, every small book is an entry, and they ascend.
-use Prim.Native.Nat.{ℕ, ◌+◌, ◌*◌, ◌-◌, ◌≤◌, ◌<◌}
+use Prim.Native.Nat.{ℕ, ◌+◌, ◌*◌, ◌≤◌, ◌<◌}
 use native.Mathlib.Omega.{arith}
 use native.Mathlib.Decide.{dec_lt, ℕ_discrete}
 use mathlib.Core.Path.{◌≡◌, refl, sym, ap, ap₂, ◌∙◌, subst, subst₂}
@@ -17,7 +17,7 @@ use Rattle.book.specs.Within.{Every, StatementWithin}
 use Rattle.book.specs.Bytes.{Bytes, header_bytes, statement_bytes, statements_bytes}
 use Rattle.book.proofs.Accepted.{accepted_statements, accepted_records}
 use Rattle.small.specs.Statements.{small_counts, statement_at_lem}
-use Rattle.small.specs.Books.{Small, statement_count, less, precedes, atomic_bytes, book_of, small_books, there, entry_at}
+use Rattle.small.specs.Books.{Small, statement_count, precedes, atomic_bytes, book_of, small_books, there, entry_at}
 use Rattle.small.proofs.Order.{apart, apart_less, apart_front, apart_behind, less_self}
 use Rattle.small.proofs.Statements.{statement_at_within, statement_at_bare, statement_at_apart, is_statement_at}
 use Rattle.small.proofs.Read.{small_book_lem, book_accepted, accepted_laid}

@@ -1,5 +1,5 @@
 -- What the functions hand back of an entry of the list.
-use Rattle.std.specs.Prelude.{ℕ, ◌-◌, List, ◌++◌, length, replicate, drop, leb}
+use Rattle.std.specs.Prelude.{ℕ, List, ◌++◌, length, replicate, drop, leb}
 use Rattle.book.specs.Read.{pick}
 use Rattle.small.specs.declared.small.Found.TheVariants.{Book, None}
 use Rattle.small.specs.declared.small.SmallBook.{SmallBook}

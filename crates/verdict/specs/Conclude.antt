@@ -1,5 +1,5 @@
 -- How complete tables end: the outcome that is read off them, and the outcome that an answer and three lists are.
-use Rattle.std.specs.Prelude.{ℕ, ◌-◌, ◌*◌, Bool, ◌||◌, ◌&&◌, List, length, get_or, ltb, eqb}
+use Rattle.std.specs.Prelude.{ℕ, ◌*◌, Bool, ◌||◌, ◌&&◌, List, length, get_or, ltb, eqb}
 use Rattle.book.specs.Read.{pick}
 use Rattle.rows.specs.declared.table.Size.{Size}
 use Rattle.rules.specs.Fact.{Two, two}

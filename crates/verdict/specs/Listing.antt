@@ -1,10 +1,10 @@
 -- What is listed of a table: its rows in ascending order (src/list.rt).
-use Rattle.std.specs.Prelude.{ℕ, ◌+◌, ◌-◌, ◌*◌, ◌/◌, ◌<◌, ◌≤◌, min, ◌≡◌, ◌&&◌, List, ◌++◌, length, get_or, take, drop, replicate, ltb}
+use Rattle.std.specs.Prelude.{ℕ, ◌+◌, ◌-◌, ◌*◌, ◌/◌, min, ◌≡◌, ◌&&◌, List, ◌++◌, length, get_or, take, drop, ltb}
 use Rattle.rows.specs.Row.{has}
 use Rattle.rows.specs.declared.table.Size.{Size}
 use Rattle.rows.specs.Table.{leads}
 use Rattle.rules.specs.Fact.{Two, Three, two, three}
-use Rattle.rules.specs.Lists.{gather, only, entries2, entries3, filled}
+use Rattle.rules.specs.Lists.{gather, only}
 
 -- the members below n of row k, each with a number in front
 abbrev pub row_of : ℕ → List ℕ → ℕ → ℕ → List Two

@@ -1,5 +1,5 @@
 -- The answer is the effect.
-use Prim.Native.Nat.{ℕ, zero, suc, ◌+◌, ◌-◌, ◌*◌, ◌<◌, ◌≤◌}
+use Prim.Native.Nat.{ℕ, zero, suc, ◌-◌, ◌*◌, ◌<◌, ◌≤◌}
 use native.Mathlib.Decide.{dec_lt}
 use native.Mathlib.Omega.{arith}
 use mathlib.Core.Path.{◌≡◌, refl, ap, sym, ◌∙◌, subst, fun_ext}
@@ -8,10 +8,10 @@ use mathlib.Core.List.{List, [], ◌∷◌, ◌++◌}
 use lib.ListN.{length}
 use lib.Dec.{ltb}
 use borrow.Author.Tests.{le-ltb}
-use Rattle.book.specs.Read.{pick, Read, value}
+use Rattle.book.specs.Read.{pick, Read}
 use Rattle.book.specs.Statement.{bodies}
 use Rattle.book.specs.Within.{Every, Within}
-use Rattle.book.specs.Book.{Book, Decoded, accepted, refused, decode}
+use Rattle.book.specs.Book.{Book, accepted, decode}
 use Rattle.book.specs.declared.header.Counts.{Counts}
 use Rattle.book.specs.declared.statement.Statement.{Statement}
 use Rattle.rules.specs.Fact.{Two, Three, two}
@@ -31,7 +31,6 @@ use Rattle.tables.specs.Open.{book_of, book_with, size_of, Open}
 use Rattle.said.specs.Layout.{layout_of}
 use Rattle.rounds.specs.View.{held}
 use Rattle.verdict.specs.Verdict.{clash_in}
-use Rattle.tables.proofs.Open.{open_limits}
 use Rattle.verdict.specs.declared.end.End.{End as Answer}
 use Rattle.verdict.specs.declared.end.End.TheVariants as answer
 use Rattle.verdict.specs.Conclude.{end_of, came}
@@ -41,7 +40,7 @@ use Rattle.saturation.proofs.Ending.{drawn_spent}
 use Rattle.saturation.proofs.run.Closing.{heard_within, heard_inside}
 use Rattle.saturation.proofs.saturate.Answers.{heard_outcome}
 use Rattle.effect.specs.Copy.{copied, one_record, larger, with_record}
-use Rattle.effect.specs.Effect.{had, less, news, difference, Effect, on_finished, by_itself, followed, effect}
+use Rattle.effect.specs.Effect.{had, less, news, difference, Effect, on_finished, effect}
 use Rattle.effect.proofs.Kept.{conclusions_more}
 use Rattle.effect.proofs.Difference.{difference_same, difference_news}
 use Rattle.effect.proofs.Copied.{copied_is}

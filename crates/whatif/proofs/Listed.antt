@@ -1,10 +1,10 @@
 -- The difference of two sets, in the order of the lists, is the one list without the other.
 use Prim.Native.Nat.{ℕ, zero, suc, ◌+◌, ◌*◌, ◌/◌, ◌≤◌, ◌<◌}
 use native.Mathlib.Omega.{arith}
-use mathlib.Core.Path.{◌≡◌, refl, ap, ap₂, sym, ◌∙◌, subst}
+use mathlib.Core.Path.{◌≡◌, refl, ap, ap₂, sym, ◌∙◌}
 use mathlib.Core.Bool.{Bool, true, false, not, ◌&&◌}
 use mathlib.Core.List.{List, [], ◌∷◌, ◌++◌, append_assoc}
-use lib.ListN.{length, drop, length-append}
+use lib.ListN.{length, drop}
 use lib.Seq.{drop-append_seam}
 use lib.Dec.{ltb}
 use Rattle.book.specs.Read.{pick}
@@ -23,7 +23,7 @@ use Rattle.verdict.specs.declared.end.End.{End as Answer}
 use Rattle.verdict.specs.declared.end.End.TheVariants as answer
 use Rattle.verdict.specs.Conclude.{came}
 use Rattle.whatif.specs.Minus.{alike, minus, flat, rows2, rows3, Standing, same2, same3, Filled, lessened}
-use Rattle.whatif.proofs.Minus.{alike_same, alike_self, alike_other}
+use Rattle.whatif.proofs.Minus.{alike_self, alike_other}
 
 -- members of any kind, each with its row and a number that rises with it
 module _ {A : Type 0} (row : A → List ℕ) (key : A → ℕ) (rising : (x y : A) → row x ≡ row y → key x ≡ key y) where

@@ -11,13 +11,13 @@ use Rattle.book.specs.Read.{Read, value, refusal, onward, unless}
 use Rattle.book.specs.Statement.{statement}
 use Rattle.book.proofs.statement.Laws.{statement_within}
 use Rattle.book.specs.Within.{Within}
-use Rattle.book.specs.Book.{Book, Decoded, accepted, decode}
+use Rattle.book.specs.Book.{Decoded, accepted, decode}
 use Rattle.book.specs.declared.header.Counts.{Counts}
 use Rattle.book.specs.declared.statement.Statement.{Statement}
 use Rattle.rules.specs.Fact.{Two, Three}
 use Rattle.rules.specs.Meaning.{conclusions}
 use Rattle.rules.specs.Lists.{types, edges, pairs}
-use Rattle.rules.specs.Ends.{End, Refused, Finished, Outcome, ends_with, untouched, outcome_of, outcome}
+use Rattle.rules.specs.Ends.{Refused, Finished, Outcome, ends_with, untouched, outcome_of, outcome}
 use Rattle.book.specs.Reader.{rest}
 use Rattle.rules.specs.Spoken.{anyone, heedings}
 use Rattle.denial.specs.Denied.{denied_of}
@@ -32,8 +32,8 @@ use Rattle.verdict.specs.declared.end.End.TheVariants as answer
 use Rattle.verdict.specs.Conclude.{end_of, came}
 use Rattle.saturation.specs.Run.{heard, heard_book, outcome_on, Admitted, Drawn, Worked}
 use Rattle.saturation.proofs.run.Closing.{heard_within, heard_inside}
-use Rattle.effect.specs.Copy.{copied, one_record, larger, entered, with_record}
-use Rattle.effect.specs.Effect.{had, difference, news, Effect, by_itself, followed, on_finished, effect}
+use Rattle.effect.specs.Copy.{copied, one_record, larger, with_record}
+use Rattle.effect.specs.Effect.{had, difference, news, by_itself, followed, on_finished, effect}
 use Rattle.effect.proofs.Copied.{copied_is}
 use Rattle.whatif.specs.Minus.{Filled, lessened}
 use Rattle.whatif.specs.Further.{Ongoing}

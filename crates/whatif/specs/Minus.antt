@@ -1,5 +1,5 @@
 -- Rows of one list without those of another.
-use Rattle.std.specs.Prelude.{ℕ, ◌+◌, ◌≤◌, ◌<◌, ◌≡◌, Bool, true, false, ◌&&◌, List, [], ◌∷◌, ◌++◌, ◌⊎◌, length, take, drop, eqb}
+use Rattle.std.specs.Prelude.{ℕ, ◌+◌, ◌<◌, ◌≡◌, Bool, true, false, ◌&&◌, List, [], ◌∷◌, ◌++◌, ◌⊎◌, length, take, drop, eqb}
 use Rattle.book.specs.Read.{pick}
 use Rattle.book.specs.Within.{Every}
 use Rattle.rules.specs.Fact.{Two, Three}

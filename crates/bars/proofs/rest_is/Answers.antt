@@ -1,5 +1,4 @@
 -- `rest_is` says what the three answers of `only` say.
-use borrow.Author.Rules.{rules}
 use Prim.Native.Nat.{ℕ}
 use mathlib.Core.Path.{◌≡◌}
 use native.Mathlib.Omega.{arith}

@@ -1,5 +1,4 @@
 -- `run_fronts` is safe: the fronts fit.
-use borrow.Author.Rules.{rules}
 use mathlib.Core.Path.{sym}
 use native.Mathlib.Omega.{arith}
 use lib.ListN.{length-take}

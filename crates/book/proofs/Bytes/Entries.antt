@@ -9,7 +9,7 @@ use lib.Seq.{get_or-set_same, get_or-set_other, set-get_or, ext_get_or, get_or_a
 use lib.Dec.{ltb, leb, eqb}
 use borrow.Author.Tests.{leb-true, lt-ltb, le-leb, ne_eqb}
 use Rattle.book.specs.Read.{pick, value, refusal, onward, give, unless}
-use Rattle.book.specs.Field.{number_at_lem, byte, two_bytes_lem, field, fields_from, fields}
+use Rattle.book.specs.Field.{number_at_lem, byte, two_bytes_lem, field, fields_from}
 use Rattle.book.specs.Bytes.{Bytes, Has, two_of, Place, gap, put, map_of, bytes_of, fill, places_of}
 use Rattle.book.proofs.Parsing.{came, held, same_value}
 use Rattle.book.proofs.field.Laws.{two_read, kept}

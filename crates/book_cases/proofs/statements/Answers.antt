@@ -1,9 +1,6 @@
 -- `statements` ends: each turn of the reader goes forward.
-use Prim.Native.Nat.{◌-◌}
 use mathlib.Core.Path.{sym, ◌∙◌}
 use native.Mathlib.Omega.{arith}
-use lib.ListN.{length}
-use borrow.Author.Rules.{rules}
 use Rattle.book.proofs.reader.Laws.{turn_goes}
 use Rattle.book_cases.proofs.statements.Goals as goal
 

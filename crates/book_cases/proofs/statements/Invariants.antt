@@ -1,9 +1,5 @@
 use Prim.Native.Nat.{◌-◌}
-use mathlib.Core.Path.{sym, ◌∙◌}
-use native.Mathlib.Omega.{arith}
 use lib.ListN.{length}
-use borrow.Author.Rules.{rules}
-use Rattle.book.proofs.reader.Laws.{turn_goes}
 use Rattle.book_cases.proofs.statements.Given as goal
 
 abbrev pub invariant-loop-x : goal.invariant-loop-x

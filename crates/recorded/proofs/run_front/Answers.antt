@@ -2,7 +2,6 @@
 use mathlib.Core.Path.{sym}
 use native.Mathlib.Omega.{arith}
 use lib.Seq.{length-take-le}
-use borrow.Author.Rules.{rules}
 use Rattle.recorded.proofs.run_front.Goals as goal
 
 pub slice_bounds-run_lent-end : goal.slice_bounds-run_lent-end

@@ -1,5 +1,4 @@
 -- `answer` puts the defined output.
-use borrow.Author.Rules.{rules}
 use native.Mathlib.Omega.{arith}
 use Rattle.io.proofs.Counting.{prefix_len_of_le}
 use Rattle.saturate.proofs.Answers.{output_long, output_run}

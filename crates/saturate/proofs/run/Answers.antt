@@ -1,5 +1,4 @@
 -- `run` prints what `saturate` came to.
-use borrow.Author.Rules.{rules}
 use mathlib.Core.Path.{ap, ◌∙◌}
 use Rattle.text.specs.Text.{printed}
 use Rattle.rules.specs.Ends.{outcome}

@@ -1,5 +1,4 @@
 -- `run_whole` runs on lists of zeros.
-use borrow.Author.Rules.{rules}
 use Rattle.saturate.specs.Output.{zeros}
 use Rattle.saturate.proofs.run_whole.Goals as goal
 

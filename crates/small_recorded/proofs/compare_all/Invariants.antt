@@ -1,5 +1,4 @@
 use Prim.Native.Nat.{◌-◌, ◌≤◌}
-use borrow.Author.Rules.{rules}
 use Rattle.small_recorded.proofs.compare_all.Given as goal
 
 abbrev pub invariant-loop-position : goal.invariant-loop-position

@@ -2,7 +2,6 @@
 use mathlib.Core.Path.{sym}
 use native.Mathlib.Omega.{arith}
 use lib.Seq.{length-take-le}
-use borrow.Author.Rules.{rules}
 use Rattle.small_recorded.proofs.compare_front.Goals as goal
 
 pub slice_bounds-compare_all-end : goal.slice_bounds-compare_all-end

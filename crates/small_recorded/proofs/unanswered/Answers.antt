@@ -1,6 +1,3 @@
-use Prim.Native.Nat.{◌-◌}
-use native.Mathlib.Omega.{arith}
-use borrow.Author.Rules.{rules}
 use Rattle.small_recorded.proofs.unanswered.Goals as goal
 
 pub loop-i-init : goal.loop-i-init

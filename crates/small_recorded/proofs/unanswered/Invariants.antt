@@ -1,6 +1,4 @@
 use Prim.Native.Nat.{◌-◌}
-use native.Mathlib.Omega.{arith}
-use borrow.Author.Rules.{rules}
 use Rattle.small_recorded.proofs.unanswered.Given as goal
 
 abbrev pub invariant-loop-i : goal.invariant-loop-i

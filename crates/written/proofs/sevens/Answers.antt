@@ -1,10 +1,10 @@
 -- `sevens` has filled the front that it has passed.
 use borrow.Author.Rules.{rules}
-use Prim.Native.Nat.{ℕ, ◌-◌, ◌≤◌}
+use Prim.Native.Nat.{ℕ}
 use mathlib.Core.Path.{◌≡◌, refl, ap, ◌∙◌}
-use mathlib.Core.List.{◌++◌, List, append-nil}
+use mathlib.Core.List.{List, append-nil}
 use native.Mathlib.Omega.{arith}
-use lib.ListN.{length, drop, replicate, set, length-set}
+use lib.ListN.{length, set, length-set}
 use borrow.Author.Fill.{fill_none, fill_more}
 use lib.Seq.{drop-length}
 use Rattle.written.proofs.sevens.Goals as goal

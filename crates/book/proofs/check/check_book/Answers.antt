@@ -1,5 +1,4 @@
 -- `check_book` meets its contract: one law for each way out.
-use borrow.Author.Rules.{rules}
 use Rattle.book.proofs.check.Ways.{book-ways, left-ways}
 use Rattle.book.proofs.check.check_book.Goals as goal
 

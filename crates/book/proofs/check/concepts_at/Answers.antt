@@ -1,7 +1,5 @@
 -- `concepts_at` meets its contract. The invariant: the records below k are passed, their starts are noted, and all else is as before.
-use Prim.Native.Nat.{◌-◌}
-use borrow.Author.Rules.{rules}
-use Rattle.book.proofs.check.Ways.{ConceptsNoted, none_noted, concepts_refused, concepts_again, concepts_done}
+use Rattle.book.proofs.check.Ways.{none_noted, concepts_refused, concepts_again, concepts_done}
 use Rattle.book.proofs.check.concepts_at.Goals as goal
 
 pub loop-k-init : goal.loop-k-init

@@ -1,6 +1,5 @@
 use Prim.Native.Nat.{◌-◌}
-use borrow.Author.Rules.{rules}
-use Rattle.book.proofs.check.Ways.{ConceptsNoted, none_noted, concepts_refused, concepts_again, concepts_done}
+use Rattle.book.proofs.check.Ways.{ConceptsNoted}
 use Rattle.book.proofs.check.concepts_at.Given as goal
 
 abbrev pub invariant-loop-k : goal.invariant-loop-k

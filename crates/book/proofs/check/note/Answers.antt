@@ -1,7 +1,6 @@
 -- `note` meets its contract: past the end of the list nothing is stored, and storing there changes nothing.
 use mathlib.Core.Path.{sym}
 use lib.Seq.{set_out}
-use borrow.Author.Rules.{rules}
 use Rattle.book.proofs.check.note.Goals as goal
 
 pub returns-else-i-offsets : goal.returns-else-i-offsets

@@ -1,5 +1,4 @@
 -- `statement_passed` meets its contract.
-use borrow.Author.Rules.{rules}
 use Rattle.book.proofs.check.statement_passed.Goals as goal
 
 pub returns-in-Next : goal.returns-in-Next

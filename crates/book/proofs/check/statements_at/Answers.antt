@@ -1,8 +1,6 @@
 -- `statements_at` meets its contract. The invariant: the statements below k are passed and end here.
-use Prim.Native.Nat.{◌-◌, ◌≤◌}
 use native.Mathlib.Omega.{arith}
-use borrow.Author.Rules.{rules}
-use Rattle.book.proofs.check.Ways.{StatementsPassed, none_passed, statements_refused, statements_again, statements_done}
+use Rattle.book.proofs.check.Ways.{none_passed, statements_refused, statements_again, statements_done}
 use Rattle.book.proofs.check.statements_at.Goals as goal
 
 pub loop-k-init : goal.loop-k-init

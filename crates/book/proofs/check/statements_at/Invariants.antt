@@ -1,7 +1,5 @@
 use Prim.Native.Nat.{◌-◌, ◌≤◌}
-use native.Mathlib.Omega.{arith}
-use borrow.Author.Rules.{rules}
-use Rattle.book.proofs.check.Ways.{StatementsPassed, none_passed, statements_refused, statements_again, statements_done}
+use Rattle.book.proofs.check.Ways.{StatementsPassed}
 use Rattle.book.proofs.check.statements_at.Given as goal
 
 abbrev pub invariant-loop-k : goal.invariant-loop-k

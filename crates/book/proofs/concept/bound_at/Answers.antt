@@ -1,5 +1,4 @@
 -- `bound_at` meets its contract.
-use borrow.Author.Rules.{rules}
 use Rattle.book.proofs.concept.Ways.{bound_absent, bound_read}
 use Rattle.book.proofs.concept.bound_at.Goals as goal
 

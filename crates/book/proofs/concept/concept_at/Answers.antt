@@ -1,5 +1,4 @@
 -- `concept_at` meets its contract.
-use borrow.Author.Rules.{rules}
 use Rattle.book.proofs.concept.Ways.{concept_unstarted, concept_read}
 use Rattle.book.proofs.concept.concept_at.Goals as goal
 

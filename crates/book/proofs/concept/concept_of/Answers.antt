@@ -1,6 +1,5 @@
 -- `concept_of` meets its contract, arm by arm; the last arm has every kind that is none of the eleven before it.
 use Prim.Native.Nat.{zero-le}
-use borrow.Author.Rules.{rules}
 use Rattle.book.proofs.Past.{past}
 use Rattle.book.proofs.concept.Ways.{max_of}
 use Rattle.book.proofs.concept.concept_of.Goals as goal

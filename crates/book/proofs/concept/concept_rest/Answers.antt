@@ -1,5 +1,4 @@
 -- `concept_rest` meets its contract.
-use borrow.Author.Rules.{rules}
 use Rattle.book.proofs.concept.Ways.{rest_unread, rest_read}
 use Rattle.book.proofs.concept.concept_rest.Goals as goal
 

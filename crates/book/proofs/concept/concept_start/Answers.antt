@@ -1,5 +1,4 @@
 -- `concept_start` meets its contract: one law for each way out.
-use borrow.Author.Rules.{rules}
 use Rattle.book.proofs.concept.Ways.{start-ways}
 use Rattle.book.proofs.concept.concept_start.Goals as goal
 

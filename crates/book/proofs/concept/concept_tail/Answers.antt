@@ -1,5 +1,4 @@
 -- `concept_tail` meets its contract: one law for each way out.
-use borrow.Author.Rules.{rules}
 use Rattle.book.proofs.concept.Ways.{tail-ways}
 use Rattle.book.proofs.concept.concept_tail.Goals as goal
 

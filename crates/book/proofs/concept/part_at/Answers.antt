@@ -1,5 +1,4 @@
 -- `part_at` meets its contract: one law for each way out.
-use borrow.Author.Rules.{rules}
 use Rattle.book.proofs.concept.Ways.{part-ways}
 use Rattle.book.proofs.concept.part_at.Goals as goal
 

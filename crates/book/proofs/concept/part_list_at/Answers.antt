@@ -1,5 +1,4 @@
 -- `part_list_at` meets its contract: one law for each way out.
-use borrow.Author.Rules.{rules}
 use Rattle.book.proofs.concept.Ways.{list-ways}
 use Rattle.book.proofs.concept.part_list_at.Goals as goal
 

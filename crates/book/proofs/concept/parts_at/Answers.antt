@@ -1,8 +1,6 @@
 -- `parts_at` meets its contract. The invariant: the parts below k are passed and end here.
-use Prim.Native.Nat.{◌-◌, ◌≤◌}
 use native.Mathlib.Omega.{arith}
-use borrow.Author.Rules.{rules}
-use Rattle.book.proofs.concept.Ways.{PartsPassed, none_passed, parts_refused, parts_again, parts_done}
+use Rattle.book.proofs.concept.Ways.{none_passed, parts_refused, parts_again, parts_done}
 use Rattle.book.proofs.concept.parts_at.Goals as goal
 
 pub loop-k-init : goal.loop-k-init

@@ -1,7 +1,5 @@
 use Prim.Native.Nat.{◌-◌, ◌≤◌}
-use native.Mathlib.Omega.{arith}
-use borrow.Author.Rules.{rules}
-use Rattle.book.proofs.concept.Ways.{PartsPassed, none_passed, parts_refused, parts_again, parts_done}
+use Rattle.book.proofs.concept.Ways.{PartsPassed}
 use Rattle.book.proofs.concept.parts_at.Given as goal
 
 abbrev pub invariant-loop-k : goal.invariant-loop-k

@@ -1,6 +1,5 @@
 -- `byte_at` meets its contract.
 use native.Mathlib.Omega.{arith}
-use borrow.Author.Rules.{rules}
 use Rattle.book.proofs.field.Ways.{byte_full, byte_short}
 use Rattle.book.proofs.field.byte_at.Goals as goal
 

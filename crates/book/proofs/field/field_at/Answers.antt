@@ -1,5 +1,4 @@
 -- `field_at` meets its contract: one law for each way out.
-use borrow.Author.Rules.{rules}
 use Rattle.book.proofs.field.Ways.{field-ways}
 use Rattle.book.proofs.field.field_at.Goals as goal
 

@@ -1,9 +1,5 @@
 -- `fields_at` meets its contract. The invariant: what is left of the walk over the bits gives what the whole walk gives.
-use Prim.Native.Nat.{◌-◌, ◌≤◌}
-use mathlib.Core.Path.{◌≡◌}
 use native.Mathlib.Omega.{arith}
-use borrow.Author.Rules.{rules}
-use Rattle.book.specs.Field.{fields_from, fields}
 use Rattle.book.proofs.field.Ways.{fields_start, fields_early, fields_refused, fields_step, fields_done}
 use Rattle.book.proofs.field.fields_at.Goals as goal
 

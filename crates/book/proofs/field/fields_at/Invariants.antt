@@ -1,9 +1,6 @@
 use Prim.Native.Nat.{◌-◌, ◌≤◌}
 use mathlib.Core.Path.{◌≡◌}
-use native.Mathlib.Omega.{arith}
-use borrow.Author.Rules.{rules}
 use Rattle.book.specs.Field.{fields_from, fields}
-use Rattle.book.proofs.field.Ways.{fields_start, fields_early, fields_refused, fields_step, fields_done}
 use Rattle.book.proofs.field.fields_at.Given as goal
 
 abbrev pub invariant-loop-k : goal.invariant-loop-k

@@ -1,6 +1,5 @@
 -- `u16_at` meets its contract.
 use native.Mathlib.Omega.{arith}
-use borrow.Author.Rules.{rules}
 use Rattle.book.proofs.field.Ways.{two_full, two_short}
 use Rattle.book.proofs.field.u16_at.Goals as goal
 

@@ -1,6 +1,5 @@
 -- `u32_at` meets its contract.
 use native.Mathlib.Omega.{arith}
-use borrow.Author.Rules.{rules}
 use Rattle.book.proofs.field.Ways.{four_full, four_short}
 use Rattle.book.proofs.field.u32_at.Goals as goal
 

@@ -1,5 +1,4 @@
 -- `header_at` meets its contract: one law for each way out.
-use borrow.Author.Rules.{rules}
 use Rattle.book.proofs.header.Laws.{counts_fit}
 use Rattle.book.proofs.header.Ways.{header-ways}
 use Rattle.book.proofs.header.header_at.Goals as goal

@@ -1,5 +1,4 @@
 -- `turn_at` meets its contract.
-use borrow.Author.Rules.{rules}
 use Rattle.book.proofs.reader.Laws.{turn_next, turn_end}
 use Rattle.book.proofs.reader.turn_at.Goals as goal
 

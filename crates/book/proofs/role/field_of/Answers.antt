@@ -1,5 +1,4 @@
 -- `field_of` meets its contract.
-use borrow.Author.Rules.{rules}
 use Rattle.book.proofs.role.field_of.Goals as goal
 
 pub returns-in-Named : goal.returns-in-Named

@@ -1,6 +1,5 @@
 -- `axiom_of` meets its contract, arm by arm; the last arm has every kind that is none of 1 to 15.
 use Prim.Native.Nat.{zero-le}
-use borrow.Author.Rules.{rules}
 use Rattle.book.specs.Statement.{axiom_of_lem}
 use Rattle.book.proofs.Past.{past}
 use Rattle.book.proofs.statement.Ways.{denial_of}

@@ -1,5 +1,4 @@
 -- `statement_at` meets its contract.
-use borrow.Author.Rules.{rules}
 use Rattle.book.proofs.statement.Ways.{statement_unstarted, statement_read}
 use Rattle.book.proofs.statement.statement_at.Goals as goal
 

@@ -1,5 +1,4 @@
 -- `statement_end` meets its contract.
-use borrow.Author.Rules.{rules}
 use Rattle.book.proofs.statement.Ways.{end_early, end_of}
 use Rattle.book.proofs.statement.statement_end.Goals as goal
 

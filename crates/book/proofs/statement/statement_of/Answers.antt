@@ -1,5 +1,4 @@
 -- `statement_of` meets its contract.
-use borrow.Author.Rules.{rules}
 use Rattle.book.proofs.statement.statement_of.Goals as goal
 
 pub returns : goal.returns

@@ -1,5 +1,4 @@
 -- `statement_rest` meets its contract.
-use borrow.Author.Rules.{rules}
 use Rattle.book.proofs.statement.Ways.{rest_unread, rest_read}
 use Rattle.book.proofs.statement.statement_rest.Goals as goal
 

@@ -1,5 +1,4 @@
 -- `statement_start` meets its contract: one law for each way out.
-use borrow.Author.Rules.{rules}
 use Rattle.book.proofs.statement.Ways.{start-ways}
 use Rattle.book.proofs.statement.statement_start.Goals as goal
 

@@ -1,5 +1,4 @@
 -- `statement_allows` meets its contract.
-use borrow.Author.Rules.{rules}
 use Rattle.book.proofs.table.Ways.{allows_first, allows_second, allows_third}
 use Rattle.book.proofs.table.statement_allows.Goals as goal
 

@@ -1,13 +1,10 @@
-use Prim.Native.Nat.{◌-◌}
 use native.Mathlib.Omega.{arith}
-use mathlib.Core.Path.{◌≡◌, refl, sym, ◌∙◌}
-use lib.ListN.{length}
-use borrow.Author.Rules.{rules}
+use mathlib.Core.Path.{refl, sym, ◌∙◌}
 use Rattle.tables.specs.Open.{size_of}
 use Rattle.heed.specs.Names.{reader_of}
 use Rattle.heed.proofs.Laws.{heeded_next, heeded_end}
 use Rattle.rounds.specs.View.{held}
-use Rattle.denial.proofs.Left.{left, left_denied, left_next, left_none}
+use Rattle.denial.proofs.Left.{left_denied, left_next, left_none}
 use Rattle.denial.proofs.deny.any_denied.Goals as goal
 
 pub loop-statement-init : goal.loop-statement-init

@@ -2,7 +2,6 @@ use native.Mathlib.Omega.{arith}
 use mathlib.Core.Path.{refl, sym, ◌∙◌}
 use mathlib.Core.Bool.{or-false}
 use Rattle.denial.proofs.Left.{pair_there}
-use borrow.Author.Rules.{rules}
 use Rattle.denial.proofs.deny.denies.Goals as goal
 
 pub bounds-labels-a : goal.bounds-labels-a

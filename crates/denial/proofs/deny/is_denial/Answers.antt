@@ -1,6 +1,5 @@
 use mathlib.Core.Path.{refl, sym}
 use Rattle.rules.proofs.Tests.{false_true}
-use borrow.Author.Rules.{rules}
 use Rattle.denial.proofs.deny.is_denial.Goals as goal
 
 pub returns-in-SubClassOf : goal.returns-in-SubClassOf

@@ -1,7 +1,5 @@
 use native.Mathlib.Omega.{arith}
-use mathlib.Core.Path.{sym, ◌∙◌}
 use Rattle.denial.proofs.Left.{field_low, led_room, edge_there}
-use borrow.Author.Rules.{rules}
 use Rattle.denial.proofs.deny.leads.Goals as goal
 
 pub row_of-k-requires : goal.row_of-k-requires

@@ -1,4 +1,3 @@
-use borrow.Author.Rules.{rules}
 use mathlib.Core.Path.{refl}
 use Rattle.derivation.specs.Fits.{two_fits_lem}
 use Rattle.derivation.proofs.Chaining.{two_stand, two_back}

@@ -1,4 +1,3 @@
-use borrow.Author.Rules.{rules}
 use mathlib.Core.Path.{refl}
 use Rattle.derivation.proofs.Chaining.{pair_elsewhere}
 use Rattle.derivation.proofs.chain.pair_from.Goals as goal

@@ -1,4 +1,3 @@
-use borrow.Author.Rules.{rules}
 use mathlib.Core.Path.{refl}
 use Rattle.derivation.proofs.Chaining.{by_none}
 use Rattle.derivation.proofs.chain.triple_by.Goals as goal

@@ -1,4 +1,3 @@
-use borrow.Author.Rules.{rules}
 use Rattle.derivation.specs.Fits.{three_fits_lem}
 use Rattle.derivation.proofs.Chaining.{three_stand, order_third, order_second, order_first}
 use Rattle.derivation.proofs.chain.triple_fits.Goals as goal

@@ -1,4 +1,3 @@
-use borrow.Author.Rules.{rules}
 use Rattle.derivation.proofs.Chaining.{triple_elsewhere}
 use Rattle.derivation.proofs.chain.triple_from.Goals as goal
 

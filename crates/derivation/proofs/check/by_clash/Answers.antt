@@ -1,4 +1,3 @@
-use borrow.Author.Rules.{rules}
 use Rattle.derivation.proofs.Denying.{row_other, row_types, row_denied}
 use Rattle.derivation.proofs.check.by_clash.Goals as goal
 

@@ -1,4 +1,3 @@
-use borrow.Author.Rules.{rules}
 use mathlib.Core.Path.{refl, sym, ◌∙◌}
 use Rattle.tables.specs.Open.{book_of}
 use Rattle.derivation.proofs.check.by_fact.Goals as goal

@@ -1,4 +1,3 @@
-use borrow.Author.Rules.{rules}
 use Rattle.tables.specs.Open.{book_of}
 use Rattle.derivation.proofs.Checking.{statement_past, statement_end_law, statement_within, statement_one, statement_other}
 use Rattle.derivation.proofs.check.by_statement.Goals as goal

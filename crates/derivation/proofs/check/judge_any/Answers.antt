@@ -1,4 +1,3 @@
-use borrow.Author.Rules.{rules}
 use native.Mathlib.Omega.{arith}
 use Rattle.tables.proofs.Open.{checked_open, checked_rest}
 use Rattle.derivation.proofs.Preparing.{judged_refused, judged_of, checked_few}

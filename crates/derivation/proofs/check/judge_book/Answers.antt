@@ -1,4 +1,3 @@
-use borrow.Author.Rules.{rules}
 use Rattle.tables.proofs.Open.{open_limits}
 use Rattle.derivation.proofs.Preparing.{enough}
 use Rattle.derivation.proofs.check.judge_book.Goals as goal

@@ -1,4 +1,3 @@
-use borrow.Author.Rules.{rules}
 use native.Mathlib.Omega.{arith}
 use Rattle.tables.proofs.Open.{open_limits}
 use Rattle.derivation.proofs.Preparing.{deep_blank, ready_of}

@@ -1,4 +1,3 @@
-use borrow.Author.Rules.{rules}
 use native.Mathlib.Omega.{arith}
 use Rattle.tables.proofs.Blank.{blank}
 use Rattle.derivation.proofs.Preparing.{enough}

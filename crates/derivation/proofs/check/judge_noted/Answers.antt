@@ -1,4 +1,3 @@
-use borrow.Author.Rules.{rules}
 use Rattle.tables.proofs.Open.{open_limits, open_statements}
 use Rattle.derivation.proofs.check.judge_noted.Goals as goal
 

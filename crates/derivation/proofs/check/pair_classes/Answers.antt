@@ -1,4 +1,3 @@
-use borrow.Author.Rules.{rules}
 use native.Mathlib.Omega.{arith}
 use Rattle.derivation.proofs.Preparing.{marker_role, pairs_of}
 use Rattle.derivation.proofs.check.pair_classes.Goals as goal

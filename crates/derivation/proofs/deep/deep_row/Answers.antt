@@ -1,4 +1,3 @@
-use borrow.Author.Rules.{rules}
 use mathlib.Core.Path.{sym, ◌∙◌}
 use Rattle.derivation.proofs.Leaves.{deep_and, deep_own}
 use Rattle.tables.proofs.Open.{open_limits}

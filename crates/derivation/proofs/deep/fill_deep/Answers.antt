@@ -1,10 +1,5 @@
-use borrow.Author.Rules.{rules}
 use native.Mathlib.Omega.{arith}
-use Prim.Native.Nat.{◌-◌, ◌≤◌}
 use mathlib.Core.Path.{◌≡◌, refl, ◌∙◌}
-use lib.ListN.{length}
-use Rattle.tables.specs.Open.{book_of}
-use Rattle.derivation.specs.Collected.{Deep}
 use Rattle.derivation.proofs.deep.fill_deep.Goals as goal
 
 pub loop-d-init : goal.loop-d-init

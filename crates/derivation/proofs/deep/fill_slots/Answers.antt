@@ -1,10 +1,8 @@
 use borrow.Author.Rules.{rules}
 use native.Mathlib.Omega.{arith}
-use Prim.Native.Nat.{◌-◌, ◌≤◌}
 use mathlib.Core.Path.{◌≡◌}
 use Rattle.derivation.proofs.Leaves.{slotted_none, slotted_more}
-use lib.ListN.{length, length-set}
-use Rattle.derivation.specs.Collected.{Slotted}
+use lib.ListN.{length-set}
 use Rattle.derivation.proofs.deep.fill_slots.Goals as goal
 
 pub loop-k-init : goal.loop-k-init

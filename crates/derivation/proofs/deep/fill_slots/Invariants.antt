@@ -1,9 +1,6 @@
-use borrow.Author.Rules.{rules}
-use native.Mathlib.Omega.{arith}
 use Prim.Native.Nat.{◌-◌, ◌≤◌}
 use mathlib.Core.Path.{◌≡◌}
-use Rattle.derivation.proofs.Leaves.{slotted_none, slotted_more}
-use lib.ListN.{length, length-set}
+use lib.ListN.{length}
 use Rattle.derivation.specs.Collected.{Slotted}
 use Rattle.derivation.proofs.deep.fill_slots.Given as goal
 

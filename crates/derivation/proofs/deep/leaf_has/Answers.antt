@@ -1,4 +1,3 @@
-use borrow.Author.Rules.{rules}
 use native.Mathlib.Omega.{arith}
 use Rattle.derivation.proofs.Slots.{leaf_found, leaf_past}
 use Rattle.derivation.proofs.deep.leaf_has.Goals as goal

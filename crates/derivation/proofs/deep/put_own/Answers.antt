@@ -1,4 +1,3 @@
-use borrow.Author.Rules.{rules}
 use native.Mathlib.Omega.{arith}
 use Rattle.derivation.proofs.Leaves.{own_sum, own_room, own_put}
 use Rattle.derivation.proofs.deep.put_own.Goals as goal

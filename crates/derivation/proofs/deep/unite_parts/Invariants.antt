@@ -1,8 +1,4 @@
-use borrow.Author.Rules.{rules}
-use native.Mathlib.Omega.{arith}
 use Prim.Native.Nat.{◌-◌, ◌≤◌}
-use Rattle.derivation.proofs.Leaves.{parted_none, parted_more, parted_all}
-use Rattle.tables.proofs.concept.Records.{part_known, parts_here}
 use Rattle.derivation.specs.Collected.{Parted}
 use Rattle.derivation.proofs.deep.unite_parts.Given as goal
 

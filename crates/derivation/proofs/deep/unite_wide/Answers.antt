@@ -1,9 +1,6 @@
-use borrow.Author.Rules.{rules}
 use native.Mathlib.Omega.{arith}
-use Prim.Native.Nat.{◌-◌, ◌≤◌}
 use mathlib.Core.Path.{◌≡◌}
 use Rattle.derivation.proofs.Leaves.{wide_none, wide_more}
-use Rattle.derivation.specs.Collected.{Wide}
 use Rattle.derivation.proofs.deep.unite_wide.Goals as goal
 
 pub loop-i-init : goal.loop-i-init

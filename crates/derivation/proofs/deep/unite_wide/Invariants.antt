@@ -1,8 +1,4 @@
-use borrow.Author.Rules.{rules}
-use native.Mathlib.Omega.{arith}
 use Prim.Native.Nat.{◌-◌, ◌≤◌}
-use mathlib.Core.Path.{◌≡◌}
-use Rattle.derivation.proofs.Leaves.{wide_none, wide_more}
 use Rattle.derivation.specs.Collected.{Wide}
 use Rattle.derivation.proofs.deep.unite_wide.Given as goal
 

@@ -1,8 +1,6 @@
-use borrow.Author.Rules.{rules}
-use Prim.Native.Nat.{◌-◌, ◌≤◌}
 use native.Mathlib.Omega.{arith}
 use mathlib.Core.Path.{refl}
-use Rattle.derivation.proofs.Noting.{Quiet, denial_found, quiet_more, quiet_all}
+use Rattle.derivation.proofs.Noting.{denial_found, quiet_more, quiet_all}
 use Rattle.derivation.proofs.denied.any_denial.Goals as goal
 
 pub loop-k-init : goal.loop-k-init

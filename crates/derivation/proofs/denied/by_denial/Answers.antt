@@ -1,4 +1,3 @@
-use borrow.Author.Rules.{rules}
 use Rattle.derivation.proofs.Noting.{denial_is}
 use Rattle.derivation.proofs.denied.by_denial.Goals as goal
 

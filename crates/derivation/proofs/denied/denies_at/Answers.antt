@@ -1,4 +1,3 @@
-use borrow.Author.Rules.{rules}
 use Rattle.derivation.proofs.Noting.{denial_end, denial_next}
 use Rattle.derivation.proofs.denied.denies_at.Goals as goal
 

@@ -1,9 +1,6 @@
-use borrow.Author.Rules.{rules}
-use Prim.Native.Nat.{◌-◌, ◌≤◌}
 use native.Mathlib.Omega.{arith}
-use mathlib.Core.Path.{◌≡◌, refl, ◌∙◌}
-use lib.ListN.{length}
-use Rattle.derivation.proofs.Noting.{First, first_none, first_more, first_all}
+use mathlib.Core.Path.{refl, ◌∙◌}
+use Rattle.derivation.proofs.Noting.{first_none, first_more, first_all}
 use Rattle.derivation.proofs.denied.fill_denied.Goals as goal
 
 pub loop-k-init : goal.loop-k-init

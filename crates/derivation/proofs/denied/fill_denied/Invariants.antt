@@ -1,9 +1,7 @@
-use borrow.Author.Rules.{rules}
 use Prim.Native.Nat.{◌-◌, ◌≤◌}
-use native.Mathlib.Omega.{arith}
-use mathlib.Core.Path.{◌≡◌, refl, ◌∙◌}
+use mathlib.Core.Path.{◌≡◌}
 use lib.ListN.{length}
-use Rattle.derivation.proofs.Noting.{First, first_none, first_more, first_all}
+use Rattle.derivation.proofs.Noting.{First}
 use Rattle.derivation.proofs.denied.fill_denied.Given as goal
 
 abbrev pub invariant-loop-k : goal.invariant-loop-k

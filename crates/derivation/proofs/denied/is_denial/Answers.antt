@@ -1,4 +1,3 @@
-use borrow.Author.Rules.{rules}
 use mathlib.Core.Path.{sym}
 use Rattle.derivation.proofs.Noting.{quiet_tag}
 use Rattle.derivation.proofs.denied.is_denial.Goals as goal

@@ -1,4 +1,3 @@
-use borrow.Author.Rules.{rules}
 use mathlib.Core.Path.{sym, ◌∙◌}
 use Rattle.book.proofs.reader.Laws.{turn_within}
 use Rattle.tables.specs.Open.{book_of}

@@ -1,4 +1,3 @@
-use borrow.Author.Rules.{rules}
 use native.Mathlib.Omega.{arith}
 use Rattle.derivation.proofs.Noting.{put_different, put_negative, put_nothing, known_different, known_negative, known_nothing, pair_below, edge_below}
 use Rattle.derivation.proofs.denied.put_denied.Goals as goal

@@ -1,5 +1,4 @@
 use native.Mathlib.Omega.{arith}
-use borrow.Author.Rules.{rules}
 use Rattle.rules.specs.Fact.{edge}
 use Rattle.derivation.proofs.fact.edge_of.Goals as goal
 

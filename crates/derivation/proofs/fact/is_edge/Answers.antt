@@ -1,5 +1,4 @@
 use mathlib.Core.Path.{refl}
-use borrow.Author.Rules.{rules}
 use Rattle.derivation.specs.Fits.{is_edge_lem}
 use Rattle.derivation.proofs.fact.is_edge.Goals as goal
 

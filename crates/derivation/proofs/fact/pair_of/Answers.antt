@@ -1,4 +1,3 @@
-use borrow.Author.Rules.{rules}
 use mathlib.Core.Path.{refl}
 use Rattle.rules.specs.Fact.{pair}
 use Rattle.derivation.proofs.fact.pair_of.Goals as goal

@@ -1,5 +1,4 @@
 use mathlib.Core.Path.{refl}
-use borrow.Author.Rules.{rules}
 use Rattle.rules.specs.Fact.{type}
 use Rattle.derivation.proofs.fact.type_of.Goals as goal
 

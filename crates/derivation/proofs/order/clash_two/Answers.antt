@@ -1,4 +1,3 @@
-use borrow.Author.Rules.{rules}
 use Rattle.derivation.proofs.Orders.{clash_first, clash_second, clash_both}
 use Rattle.derivation.proofs.order.clash_two.Goals as goal
 

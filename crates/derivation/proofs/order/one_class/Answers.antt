@@ -1,4 +1,3 @@
-use borrow.Author.Rules.{rules}
 use mathlib.Core.Path.{refl, sym, ◌∙◌}
 use Rattle.derivation.proofs.Orders.{told_class}
 use Rattle.derivation.proofs.order.one_class.Goals as goal

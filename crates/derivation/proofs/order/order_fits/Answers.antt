@@ -1,4 +1,3 @@
-use borrow.Author.Rules.{rules}
 use Rattle.derivation.proofs.Chaining.{alone_order, pair_order, triple_order, fillers_order}
 use Rattle.derivation.proofs.order.order_fits.Goals as goal
 

@@ -1,4 +1,3 @@
-use borrow.Author.Rules.{rules}
 use mathlib.Core.Path.{refl}
 use Rattle.derivation.proofs.Orders.{edges_past, edges_none, edges_share}
 use Rattle.derivation.proofs.order.share_edges.Goals as goal

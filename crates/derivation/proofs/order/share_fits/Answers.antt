@@ -1,4 +1,3 @@
-use borrow.Author.Rules.{rules}
 use mathlib.Core.Path.{refl, sym, ◌∙◌}
 use Rattle.derivation.specs.Fits.{any_order}
 use Rattle.derivation.proofs.order.share_fits.Goals as goal

@@ -1,4 +1,3 @@
-use borrow.Author.Rules.{rules}
 use Rattle.derivation.proofs.Orders.{shared_type, shared_edge}
 use Rattle.derivation.proofs.order.share_from.Goals as goal
 

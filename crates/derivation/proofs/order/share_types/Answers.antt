@@ -1,4 +1,3 @@
-use borrow.Author.Rules.{rules}
 use Rattle.derivation.proofs.Orders.{types_none, types_share}
 use Rattle.derivation.proofs.order.share_types.Goals as goal
 

@@ -1,4 +1,3 @@
-use borrow.Author.Rules.{rules}
 use mathlib.Core.Path.{refl}
 use Rattle.derivation.proofs.Orders.{same_first, same_second, same_yes}
 use Rattle.derivation.proofs.order.told_same.Goals as goal

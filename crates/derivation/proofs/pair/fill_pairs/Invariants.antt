@@ -1,9 +1,4 @@
-use borrow.Author.Rules.{rules}
-use native.Mathlib.Omega.{arith}
 use Prim.Native.Nat.{◌-◌, ◌≤◌}
-use mathlib.Core.Path.{◌≡◌}
-use Rattle.derivation.proofs.Pairing.{paired_start, paired_more}
-use mathlib.Core.Bool.{false}
 use Rattle.rules.specs.Rule.{any}
 use Rattle.derivation.specs.Pairs.{brings_clash, Paired}
 use Rattle.derivation.proofs.pair.fill_pairs.Given as goal

@@ -1,4 +1,3 @@
-use borrow.Author.Rules.{rules}
 use mathlib.Core.Path.{sym, ◌∙◌, ap}
 use Rattle.derivation.proofs.Pairing.{gathers_row, gathers_none}
 use mathlib.Core.Bool.{Bool, ◌&&◌}

@@ -1,13 +1,10 @@
-use borrow.Author.Rules.{rules}
 use native.Mathlib.Omega.{arith}
-use Prim.Native.Nat.{◌-◌, ◌≤◌}
 use mathlib.Core.Path.{◌≡◌}
 use Rattle.derivation.proofs.Pairing.{gathers_start, gathers_more}
 use mathlib.Core.Bool.{◌&&◌, false}
 use lib.ListN.{get_or}
 use Rattle.rows.specs.Row.{has}
-use Rattle.rules.specs.Rule.{any}
-use Rattle.derivation.specs.Pairs.{marks_clash_lem, Gathers}
+use Rattle.derivation.specs.Pairs.{marks_clash_lem}
 use Rattle.derivation.proofs.pair.gather_partners.Goals as goal
 
 pub loop-k-init : goal.loop-k-init

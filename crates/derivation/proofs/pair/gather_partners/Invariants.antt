@@ -1,9 +1,5 @@
-use borrow.Author.Rules.{rules}
-use native.Mathlib.Omega.{arith}
 use Prim.Native.Nat.{◌-◌, ◌≤◌}
-use mathlib.Core.Path.{◌≡◌}
-use Rattle.derivation.proofs.Pairing.{gathers_start, gathers_more}
-use mathlib.Core.Bool.{◌&&◌, false}
+use mathlib.Core.Bool.{◌&&◌}
 use lib.ListN.{get_or}
 use Rattle.rows.specs.Row.{has}
 use Rattle.rules.specs.Rule.{any}

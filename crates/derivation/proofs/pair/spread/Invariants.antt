@@ -1,8 +1,4 @@
-use borrow.Author.Rules.{rules}
-use native.Mathlib.Omega.{arith}
 use Prim.Native.Nat.{◌-◌, ◌≤◌}
-use mathlib.Core.Path.{◌≡◌}
-use Rattle.derivation.proofs.Pairing.{spreads_start, spreads_more}
 use mathlib.Core.Bool.{◌&&◌}
 use Rattle.rows.specs.Row.{has}
 use Rattle.derivation.specs.Pairs.{Spreads}

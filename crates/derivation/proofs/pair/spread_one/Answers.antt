@@ -1,4 +1,3 @@
-use borrow.Author.Rules.{rules}
 use Rattle.derivation.proofs.Pairing.{spread_row, spread_none}
 use Rattle.derivation.proofs.pair.spread_one.Goals as goal
 

@@ -1,4 +1,3 @@
-use borrow.Author.Rules.{rules}
 use Rattle.derivation.proofs.Claims.{claim_type, claim_edge, claim_clash, claim_pair, claim_none}
 use Rattle.derivation.proofs.row.claim_of.Goals as goal
 

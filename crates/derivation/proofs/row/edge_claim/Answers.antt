@@ -1,4 +1,3 @@
-use borrow.Author.Rules.{rules}
 use Rattle.derivation.proofs.Claims.{edge_yes, edge_third, edge_second, edge_first}
 use Rattle.derivation.proofs.row.edge_claim.Goals as goal
 

@@ -1,4 +1,3 @@
-use borrow.Author.Rules.{rules}
 use Rattle.derivation.proofs.Claims.{named_none, named_clash_lem, named_fact_lem}
 use Rattle.derivation.proofs.row.named_fact.Goals as goal
 

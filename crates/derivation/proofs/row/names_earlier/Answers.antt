@@ -1,4 +1,3 @@
-use borrow.Author.Rules.{rules}
 use mathlib.Core.Path.{refl}
 use Rattle.derivation.specs.Rows.{earlier}
 use Rattle.derivation.proofs.row.names_earlier.Goals as goal

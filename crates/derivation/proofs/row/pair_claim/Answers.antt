@@ -1,4 +1,3 @@
-use borrow.Author.Rules.{rules}
 use Rattle.derivation.proofs.Claims.{pair_yes, pair_third, pair_second, pair_first}
 use Rattle.derivation.proofs.row.pair_claim.Goals as goal
 

@@ -1,4 +1,3 @@
-use borrow.Author.Rules.{rules}
 use mathlib.Core.Path.{refl}
 use Rattle.derivation.specs.Rows.{row_at}
 use Rattle.derivation.proofs.row.row_at.Goals as goal

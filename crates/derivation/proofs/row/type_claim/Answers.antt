@@ -1,4 +1,3 @@
-use borrow.Author.Rules.{rules}
 use Rattle.derivation.proofs.Claims.{type_yes, type_third, type_second, type_first}
 use Rattle.derivation.proofs.row.type_claim.Goals as goal
 

@@ -1,4 +1,3 @@
-use borrow.Author.Rules.{rules}
 use mathlib.Core.Path.{refl}
 use Rattle.derivation.specs.Fits.{swap_fits_lem}
 use Rattle.derivation.proofs.rule.swap_fits.Goals as goal

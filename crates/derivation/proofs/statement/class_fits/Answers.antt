@@ -1,4 +1,3 @@
-use borrow.Author.Rules.{rules}
 use Rattle.derivation.proofs.Slots.{class_fit}
 use Rattle.derivation.proofs.statement.class_fits.Goals as goal
 

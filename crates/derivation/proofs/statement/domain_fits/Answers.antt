@@ -1,4 +1,3 @@
-use borrow.Author.Rules.{rules}
 use mathlib.Core.Path.{refl}
 use Rattle.derivation.specs.Fits.{domain_fits_lem}
 use Rattle.derivation.proofs.statement.domain_fits.Goals as goal

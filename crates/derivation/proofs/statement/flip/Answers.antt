@@ -1,4 +1,3 @@
-use borrow.Author.Rules.{rules}
 use Rattle.derivation.proofs.statement.flip.Goals as goal
 
 pub returns-in-Named : goal.returns-in-Named

@@ -1,4 +1,3 @@
-use borrow.Author.Rules.{rules}
 use Rattle.derivation.proofs.statement.path_fits.Goals as goal
 
 pub one_fits-requires : goal.one_fits-requires

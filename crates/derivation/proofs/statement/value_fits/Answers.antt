@@ -1,4 +1,3 @@
-use borrow.Author.Rules.{rules}
 use native.Mathlib.Omega.{arith}
 use Rattle.derivation.proofs.Slots.{value_none, value_fit}
 use Rattle.derivation.proofs.statement.value_fits.Goals as goal

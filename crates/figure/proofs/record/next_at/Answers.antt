@@ -3,7 +3,6 @@ use Prim.Native.Nat.{ℕ, ◌%◌}
 use native.Mathlib.Omega.{arith}
 use mathlib.Core.Path.{ap, ◌∙◌}
 use Rattle.figure.specs.Record.{numbers_of_lem, marks_of_lem, next_at}
-use borrow.Author.Rules.{rules}
 use Rattle.figure.proofs.record.next_at.Goals as goal
 
 pub overflow_add-at : goal.overflow_add-at

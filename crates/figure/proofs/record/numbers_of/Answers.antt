@@ -1,6 +1,5 @@
 use mathlib.Core.Path.{refl}
 use borrow.Author.Tests.{eq-eqb, ne_eqb, lt-ltb, le-ltb}
-use borrow.Author.Rules.{rules}
 use Rattle.figure.proofs.record.numbers_of.Goals as goal
 
 pub returns-then-kind-eq5 : goal.returns-then-kind-eq5

@@ -1,5 +1,4 @@
 -- `current` meets its contract.
-use borrow.Author.Rules.{rules}
 use Rattle.heed.proofs.Ways.{day_named}
 use Rattle.heed.proofs.heed.current.Goals as goal
 

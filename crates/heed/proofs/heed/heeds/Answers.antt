@@ -1,5 +1,4 @@
 -- `heeds` meets its contract.
-use borrow.Author.Rules.{rules}
 use Rattle.heed.proofs.Ways.{heeds_current, heeds_not}
 use Rattle.heed.proofs.heed.heeds.Goals as goal
 

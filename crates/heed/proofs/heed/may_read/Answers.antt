@@ -1,5 +1,4 @@
 -- `may_read` meets its contract.
-use borrow.Author.Rules.{rules}
 use Rattle.heed.proofs.Ways.{read_shared, read_bit}
 use Rattle.heed.proofs.heed.may_read.Goals as goal
 

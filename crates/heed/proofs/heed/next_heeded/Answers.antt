@@ -1,5 +1,4 @@
 -- `next_heeded` meets its contract. Where no one is named and no day, every statement counts.
-use borrow.Author.Rules.{rules}
 use Rattle.heed.proofs.Laws.{came_start, came_behind, step_all, heeded_all}
 use Rattle.heed.proofs.heed.next_heeded.Goals as goal
 

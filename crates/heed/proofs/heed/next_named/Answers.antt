@@ -1,10 +1,6 @@
 -- `next_named` meets its contract. Nothing that counts is passed over.
-use Prim.Native.Nat.{◌-◌}
 use native.Mathlib.Omega.{arith}
-use lib.ListN.{length}
-use borrow.Author.Rules.{rules}
-use Rattle.heed.specs.Names.{reader_of}
-use Rattle.heed.proofs.Laws.{Came, came_start, came_end, came_behind, came_within, came_goes, came_next, came_over}
+use Rattle.heed.proofs.Laws.{came_start, came_end, came_behind, came_within, came_goes, came_next, came_over}
 use Rattle.heed.proofs.heed.next_named.Goals as goal
 
 pub loop-here-init : goal.loop-here-init

@@ -1,9 +1,7 @@
 use Prim.Native.Nat.{◌-◌}
-use native.Mathlib.Omega.{arith}
 use lib.ListN.{length}
-use borrow.Author.Rules.{rules}
 use Rattle.heed.specs.Names.{reader_of}
-use Rattle.heed.proofs.Laws.{Came, came_start, came_end, came_behind, came_within, came_goes, came_next, came_over}
+use Rattle.heed.proofs.Laws.{Came}
 use Rattle.heed.proofs.heed.next_named.Given as goal
 
 abbrev pub invariant-loop-here : goal.invariant-loop-here

@@ -1,6 +1,5 @@
 -- `read` meets its contract.
 use native.Mathlib.Omega.{arith}
-use borrow.Author.Rules.{rules}
 use Rattle.heed.proofs.Ways.{read_named}
 use Rattle.heed.proofs.heed.read.Goals as goal
 

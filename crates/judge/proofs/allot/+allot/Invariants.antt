@@ -1,4 +1,4 @@
-use Rattle.std.proofs.Common.{◌+◌, ◌-◌, ◌*◌}
+use Rattle.std.proofs.Common.{◌-◌}
 use Rattle.judge.proofs.allot.+allot.Given as goal
 
 abbrev pub decreases-allot : goal.decreases-allot

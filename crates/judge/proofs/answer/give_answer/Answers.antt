@@ -7,7 +7,6 @@ use Rattle.said.proofs.layout.Parts.{part_room}
 use Rattle.rules.specs.Ends.{Finished}
 use Rattle.member.specs.Answer.{judged}
 use Rattle.judge.proofs.Agree.{not_finished}
-use borrow.Author.Rules.{rules}
 use Rattle.judge.proofs.answer.give_answer.Goals as goal
 
 pub returns-in_default : goal.returns-in_default

@@ -6,7 +6,6 @@ use Rattle.tables.proofs.Blank.{blank}
 use Rattle.tables.proofs.Open.{open_limits}
 use Rattle.saturation.proofs.allot.Words.{within}
 use Rattle.judging.proofs.Judging.{memo_none}
-use borrow.Author.Rules.{rules}
 use Rattle.judge.proofs.answer.shown_any.Goals as goal
 
 pub slice_bounds-shown-end : goal.slice_bounds-shown-end

@@ -2,7 +2,6 @@ use native.Mathlib.Omega.{arith}
 use Rattle.tables.proofs.Blank.{blank}
 use Rattle.saturation.proofs.allot.Words.{within}
 use Rattle.judging.proofs.Judging.{memo_none}
-use borrow.Author.Rules.{rules}
 use Rattle.judge.proofs.answer.shown_small.Goals as goal
 
 pub shown-requires : goal.shown-requires

@@ -3,7 +3,6 @@ use Rattle.book.specs.Book.{Decoded}
 use Rattle.rules.proofs.Spoken.{decode_all}
 use Rattle.member.specs.Answer.{member_of}
 use Rattle.judge.proofs.Asked.{judgement_gave}
-use borrow.Author.Rules.{rules}
 use Rattle.judge.proofs.judge.judge.Goals as goal
 
 pub returns : goal.returns

@@ -1,6 +1,5 @@
 use Rattle.rules.specs.Spoken.{reader}
 use Rattle.judge.proofs.Asked.{judgement_read}
-use borrow.Author.Rules.{rules}
 use Rattle.judge.proofs.judge.judge_for.Goals as goal
 
 pub returns : goal.returns

@@ -1,6 +1,5 @@
 use Rattle.rules.specs.Spoken.{reader_on}
 use Rattle.judge.proofs.Asked.{judgement_read}
-use borrow.Author.Rules.{rules}
 use Rattle.judge.proofs.judge.judge_for_on.Goals as goal
 
 pub returns : goal.returns

@@ -5,7 +5,6 @@ use Rattle.rules.proofs.Ended.{refused_1, refused_2, refused_3}
 use Rattle.heed.specs.Names.{reader_of}
 use Rattle.member.specs.Answer.{questioned}
 use Rattle.member.proofs.Judged.{member_refused}
-use borrow.Author.Rules.{rules}
 use Rattle.judge.proofs.judge.run.Goals as goal
 
 pub returns-then-budget-gt1000000 : goal.returns-then-budget-gt1000000

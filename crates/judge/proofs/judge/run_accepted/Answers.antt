@@ -1,7 +1,6 @@
 use native.Mathlib.Omega.{arith}
 use mathlib.Core.Path.{◌∙◌}
 use Rattle.judge.proofs.Asked.{no_such_individual, no_such_concept, own_gave}
-use borrow.Author.Rules.{rules}
 use Rattle.judge.proofs.judge.run_accepted.Goals as goal
 
 pub returns-then-question-counts : goal.returns-then-question-counts

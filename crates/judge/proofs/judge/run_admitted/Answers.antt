@@ -2,7 +2,6 @@ use mathlib.Core.Path.{ap}
 use Rattle.heed.specs.Names.{reader_of}
 use Rattle.member.specs.Answer.{questioned}
 use Rattle.judge.proofs.Asked.{refused_gave}
-use borrow.Author.Rules.{rules}
 use Rattle.judge.proofs.judge.run_admitted.Goals as goal
 
 pub returns-then-wrong-ne0 : goal.returns-then-wrong-ne0

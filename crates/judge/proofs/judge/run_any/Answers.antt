@@ -3,7 +3,6 @@ use mathlib.Core.Path.{sym}
 use lib.ListN.{length-replicate}
 use Rattle.book.proofs.Accepted.{accepted_limits}
 use Rattle.saturation.proofs.allot.Words.{within}
-use borrow.Author.Rules.{rules}
 use Rattle.judge.proofs.judge.run_any.Goals as goal
 
 pub slice_bounds-run_checked-end : goal.slice_bounds-run_checked-end

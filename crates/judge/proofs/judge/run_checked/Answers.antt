@@ -3,7 +3,6 @@ use mathlib.Core.Path.{sym, subst}
 use Rattle.tables.proofs.Open.{checked_open, checked_rest}
 use Rattle.saturation.proofs.saturate.Answers.{checked_room}
 use Rattle.judge.proofs.Asked.{refused_read}
-use borrow.Author.Rules.{rules}
 use Rattle.judge.proofs.judge.run_checked.Goals as goal
 
 pub run_accepted-requires : goal.run_accepted-requires

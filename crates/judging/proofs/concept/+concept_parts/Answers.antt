@@ -1,11 +1,10 @@
-use borrow.Author.Rules.{rules}
 use native.Mathlib.Omega.{arith}
-use mathlib.Core.Path.{◌≡◌, refl, sym, ◌∙◌, subst}
+use mathlib.Core.Path.{refl, sym, ◌∙◌, subst}
 use Rattle.tables.proofs.Blank.{blank}
 use Rattle.tables.proofs.Open.{open_limits}
 use Rattle.judging.specs.Way.{count_of_lem, WayIn}
 use Rattle.judging.proofs.Judging.{way_inside, way_role, way_lower, record_way, record_start_lem, judged_before, judged_new, mixed_end, mixed_next}
-use Prim.Native.Nat.{ℕ, ◌<◌, ◌+◌, ◌-◌, ◌*◌}
+use Prim.Native.Nat.{◌<◌, ◌+◌, ◌*◌}
 use Rattle.judging.proofs.concept.+concept_parts.Goals as goal
 
 pub concept-is_done-requires : goal.concept-is_done-requires

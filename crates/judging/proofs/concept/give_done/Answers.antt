@@ -1,11 +1,7 @@
-use borrow.Author.Rules.{rules}
-use Prim.Native.Nat.{ℕ, ◌-◌, ◌<◌, ◌≤◌}
+use Prim.Native.Nat.{◌<◌}
 use native.Mathlib.Omega.{arith}
-use mathlib.Core.Path.{◌≡◌, refl, sym, ◌∙◌}
-use mathlib.Core.List.{List}
-use lib.ListN.{length}
+use mathlib.Core.Path.{refl, sym, ◌∙◌}
 use Rattle.judging.specs.Way.{count_of_lem}
-use Rattle.judging.specs.Memo.{Memo, Passed}
 use Rattle.judging.proofs.Judging.{way_inside, way_role, way_lower, passed_more}
 use Rattle.judging.proofs.concept.give_done.Goals as goal
 

@@ -1,12 +1,8 @@
-use borrow.Author.Rules.{rules}
-use Prim.Native.Nat.{ℕ, ◌-◌, ◌<◌, ◌≤◌}
-use native.Mathlib.Omega.{arith}
-use mathlib.Core.Path.{◌≡◌, refl, sym, ◌∙◌}
+use Prim.Native.Nat.{ℕ, ◌-◌, ◌≤◌}
+use mathlib.Core.Path.{◌≡◌}
 use mathlib.Core.List.{List}
 use lib.ListN.{length}
-use Rattle.judging.specs.Way.{count_of_lem}
 use Rattle.judging.specs.Memo.{Memo, Passed}
-use Rattle.judging.proofs.Judging.{way_inside, way_role, way_lower, passed_more}
 use Rattle.judging.proofs.concept.give_done.Given as goal
 
 abbrev pub invariant-loop-next : goal.invariant-loop-next

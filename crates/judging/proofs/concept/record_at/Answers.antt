@@ -1,5 +1,4 @@
 use Rattle.tables.proofs.Open.{open_read, open_refused}
-use borrow.Author.Rules.{rules}
 use Rattle.judging.proofs.concept.record_at.Goals as goal
 
 pub returns-in_default : goal.returns-in_default

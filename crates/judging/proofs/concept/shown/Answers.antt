@@ -1,9 +1,6 @@
-use borrow.Author.Rules.{rules}
-use Prim.Native.Nat.{ℕ, ◌-◌, ◌≤◌}
 use native.Mathlib.Omega.{arith}
 use mathlib.Core.Path.{◌∙◌}
 use Rattle.tables.proofs.Open.{open_limits}
-use Rattle.judging.specs.Memo.{Further}
 use Rattle.judging.proofs.Judging.{further_none, further_then, shown_read}
 use Rattle.judging.proofs.concept.shown.Goals as goal
 

@@ -1,7 +1,5 @@
 use Prim.Native.Nat.{◌-◌, ◌≤◌}
-use native.Mathlib.Omega.{arith}
-use borrow.Author.Rules.{rules}
-use Rattle.judging.proofs.Words.{Copying, copying_none, copying_more, copying_all}
+use Rattle.judging.proofs.Words.{Copying}
 use Rattle.judging.proofs.row.copy.Given as goal
 
 abbrev pub invariant-loop-w : goal.invariant-loop-w

@@ -1,7 +1,5 @@
-use borrow.Author.Rules.{rules}
-use Prim.Native.Nat.{ℕ, ◌-◌, ◌+◌, ◌≤◌}
 use native.Mathlib.Omega.{arith}
-use Rattle.judging.proofs.Words.{Filling, filling_none, filling_more, filling_all}
+use Rattle.judging.proofs.Words.{filling_none, filling_more, filling_all}
 use Rattle.judging.proofs.row.fill.Goals as goal
 
 pub loop-w-init : goal.loop-w-init

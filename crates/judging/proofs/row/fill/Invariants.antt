@@ -1,7 +1,5 @@
-use borrow.Author.Rules.{rules}
-use Prim.Native.Nat.{ℕ, ◌-◌, ◌+◌, ◌≤◌}
-use native.Mathlib.Omega.{arith}
-use Rattle.judging.proofs.Words.{Filling, filling_none, filling_more, filling_all}
+use Prim.Native.Nat.{◌-◌, ◌≤◌}
+use Rattle.judging.proofs.Words.{Filling}
 use Rattle.judging.proofs.row.fill.Given as goal
 
 abbrev pub invariant-loop-w : goal.invariant-loop-w

@@ -1,7 +1,5 @@
-use Prim.Native.Nat.{◌-◌, ◌≤◌}
 use native.Mathlib.Omega.{arith}
-use borrow.Author.Rules.{rules}
-use Rattle.judging.proofs.Words.{Meeting, meeting_none, meeting_more, meeting_all}
+use Rattle.judging.proofs.Words.{meeting_none, meeting_more, meeting_all}
 use Rattle.judging.proofs.row.meet.Goals as goal
 
 pub loop-w-init : goal.loop-w-init

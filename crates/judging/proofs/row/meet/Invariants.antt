@@ -1,7 +1,5 @@
 use Prim.Native.Nat.{◌-◌, ◌≤◌}
-use native.Mathlib.Omega.{arith}
-use borrow.Author.Rules.{rules}
-use Rattle.judging.proofs.Words.{Meeting, meeting_none, meeting_more, meeting_all}
+use Rattle.judging.proofs.Words.{Meeting}
 use Rattle.judging.proofs.row.meet.Given as goal
 
 abbrev pub invariant-loop-w : goal.invariant-loop-w

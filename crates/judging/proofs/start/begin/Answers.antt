@@ -1,4 +1,4 @@
-use Prim.Native.Nat.{ℕ, ◌-◌, ◌+◌, ◌*◌}
+use Prim.Native.Nat.{◌-◌, ◌+◌, ◌*◌}
 use native.Mathlib.Omega.{arith}
 use mathlib.Core.Path.{◌≡◌, refl, subst}
 use Rattle.rows.specs.Table.{base}
@@ -7,7 +7,6 @@ use Rattle.book.specs.declared.concept.ConceptExpr.TheVariants.{Top, Bot, Not, A
 use Rattle.tables.specs.Open.{size_of}
 use Rattle.judging.specs.Way.{StartIn}
 use Rattle.judging.proofs.Starting.{few, field_lt, field_room, class_room, started_none, started_every, started_class, started_group, started_self}
-use borrow.Author.Rules.{rules}
 use Rattle.judging.proofs.start.begin.Goals as goal
 
 pub class_field-requires : goal.class_field-requires

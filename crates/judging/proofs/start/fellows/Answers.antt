@@ -1,8 +1,5 @@
-use borrow.Author.Rules.{rules}
 use mathlib.Core.Path.{◌≡◌}
-use Prim.Native.Nat.{ℕ, ◌-◌, ◌+◌, ◌≤◌}
 use native.Mathlib.Omega.{arith}
-use Rattle.judging.specs.Memo.{Fellows}
 use Rattle.judging.proofs.Starting.{fellows_none, fellows_more}
 use Rattle.judging.proofs.start.fellows.Goals as goal
 

@@ -1,9 +1,5 @@
-use borrow.Author.Rules.{rules}
-use mathlib.Core.Path.{◌≡◌}
-use Prim.Native.Nat.{ℕ, ◌-◌, ◌+◌, ◌≤◌}
-use native.Mathlib.Omega.{arith}
+use Prim.Native.Nat.{◌-◌, ◌≤◌}
 use Rattle.judging.specs.Memo.{Fellows}
-use Rattle.judging.proofs.Starting.{fellows_none, fellows_more}
 use Rattle.judging.proofs.start.fellows.Given as goal
 
 abbrev pub invariant-loop-l : goal.invariant-loop-l

@@ -5,7 +5,6 @@ use Rattle.book.specs.Role.{field_of_lem}
 use Rattle.tables.specs.Open.{size_of}
 use Rattle.judging.specs.Way.{RoleIn}
 use Rattle.judging.proofs.Starting.{few, field_lt, flip_lt, field_room, gave_leaf, gave_every, gave_any, gave_inner}
-use borrow.Author.Rules.{rules}
 use Rattle.judging.proofs.start.give.Goals as goal
 
 pub flip-requires : goal.flip-requires

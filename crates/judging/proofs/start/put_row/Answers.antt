@@ -1,5 +1,4 @@
 use Rattle.judging.proofs.Starting.{row_there, row_not}
-use borrow.Author.Rules.{rules}
 use Rattle.judging.proofs.start.put_row.Goals as goal
 
 pub returns-then-member : goal.returns-then-member

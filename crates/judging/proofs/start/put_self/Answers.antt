@@ -1,5 +1,4 @@
 use Rattle.judging.proofs.Starting.{self_there, self_not}
-use borrow.Author.Rules.{rules}
 use Rattle.judging.proofs.start.put_self.Goals as goal
 
 pub returns-then-member : goal.returns-then-member

@@ -1,8 +1,5 @@
-use Prim.Native.Nat.{ℕ, ◌-◌, ◌+◌, ◌≤◌}
 use native.Mathlib.Omega.{arith}
-use borrow.Author.Rules.{rules}
-use mathlib.Core.Path.{◌≡◌, refl, ap, sym, ◌∙◌, subst}
-use Rattle.judging.specs.Memo.{Selves}
+use mathlib.Core.Path.{◌≡◌}
 use Rattle.judging.proofs.Starting.{selves_none, selves_more}
 use Rattle.judging.proofs.start.selves.Goals as goal
 

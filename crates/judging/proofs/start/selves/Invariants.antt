@@ -1,9 +1,5 @@
-use Prim.Native.Nat.{ℕ, ◌-◌, ◌+◌, ◌≤◌}
-use native.Mathlib.Omega.{arith}
-use borrow.Author.Rules.{rules}
-use mathlib.Core.Path.{◌≡◌, refl, ap, sym, ◌∙◌, subst}
+use Prim.Native.Nat.{◌-◌, ◌≤◌}
 use Rattle.judging.specs.Memo.{Selves}
-use Rattle.judging.proofs.Starting.{selves_none, selves_more}
 use Rattle.judging.proofs.start.selves.Given as goal
 
 abbrev pub invariant-loop-i : goal.invariant-loop-i

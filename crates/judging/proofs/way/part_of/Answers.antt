@@ -2,7 +2,6 @@ use mathlib.Core.Path.{ap, sym, ◌∙◌}
 use Rattle.judging.specs.declared.way.Way.{Way}
 use Rattle.judging.specs.Way.{part_of}
 use Rattle.judging.proofs.Reading.{every_inside, any_inside}
-use borrow.Author.Rules.{rules}
 use Rattle.judging.proofs.way.part_of.Goals as goal
 
 pub part_number-requires : goal.part_number-requires

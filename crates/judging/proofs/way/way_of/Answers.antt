@@ -1,6 +1,5 @@
-use mathlib.Core.Path.{ap, sym, ◌∙◌}
+use mathlib.Core.Path.{ap, sym}
 use Rattle.judging.specs.Way.{way_of}
-use borrow.Author.Rules.{rules}
 use Rattle.judging.proofs.way.way_of.Goals as goal
 
 pub returns-in-And : goal.returns-in-And

@@ -1,8 +1,6 @@
-use Prim.Native.Nat.{ℕ, ◌<◌, ◌-◌}
 use Rattle.saturation.proofs.allot.Words.{most_rows}
 use Rattle.rounds.proofs.Facts.{open_sized}
 use Rattle.tables.proofs.Open.{open_limits}
-use borrow.Author.Rules.{rules}
 use native.Mathlib.Omega.{arith}
 use Rattle.saturation.proofs.allot.+allot.Goals as goal
 

@@ -1,4 +1,3 @@
-use borrow.Author.Rules.{rules}
 use Rattle.rules.proofs.Tests.{false_true}
 use Rattle.saturation.proofs.allot.is_tiny.Goals as goal
 

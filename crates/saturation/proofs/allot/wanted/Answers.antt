@@ -1,4 +1,3 @@
-use borrow.Author.Rules.{rules}
 use native.Mathlib.Omega.{arith}
 use Rattle.saturation.proofs.allot.Words.{small_enough, cache_enough, some_enough, any_enough}
 use Rattle.saturation.proofs.allot.wanted.Goals as goal

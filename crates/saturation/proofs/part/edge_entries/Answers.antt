@@ -1,4 +1,3 @@
-use borrow.Author.Rules.{rules}
 use Rattle.saturation.proofs.part.Fronts.{no_edges}
 use mathlib.Core.Path.{refl}
 use Rattle.saturation.proofs.part.edge_entries.Goals as goal

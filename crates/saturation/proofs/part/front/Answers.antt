@@ -1,5 +1,3 @@
-use borrow.Author.Rules.{rules}
-use mathlib.Core.Path.{sym}
 use native.Mathlib.Omega.{arith}
 use Rattle.saturation.proofs.part.Fronts.{take_all, take-length}
 use Rattle.saturation.proofs.part.front.Goals as goal

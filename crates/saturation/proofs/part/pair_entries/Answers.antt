@@ -1,4 +1,3 @@
-use borrow.Author.Rules.{rules}
 use Rattle.saturation.proofs.part.Fronts.{no_pairs}
 use mathlib.Core.Path.{refl}
 use Rattle.saturation.proofs.part.pair_entries.Goals as goal

@@ -1,6 +1,5 @@
 -- `push` adds one byte. Assumes nothing.
 use mathlib.Core.Path.{refl}
-use borrow.Author.Rules.{rules}
 use Rattle.small.specs.Laying.{added}
 use Rattle.small.proofs.laid.push.Goals as goal
 

@@ -1,9 +1,7 @@
 -- `copy` writes the first n bytes: after k of them the lent bytes are those and what was behind them. Assumes nothing.
-use Prim.Native.Nat.{◌-◌, ◌≤◌}
 use mathlib.Core.Path.{◌≡◌, refl, ap, ◌∙◌}
-use mathlib.Core.List.{◌++◌}
 use native.Mathlib.Omega.{arith}
-use lib.ListN.{length, take, drop}
+use lib.ListN.{length}
 use borrow.Author.Rules.{rules}
 use Rattle.small.proofs.Handing.{copied_more, copied_length}
 use Rattle.small.proofs.lent.copy.Goals as goal

@@ -1,10 +1,7 @@
 use Prim.Native.Nat.{◌-◌, ◌≤◌}
-use mathlib.Core.Path.{◌≡◌, refl, ap, ◌∙◌}
+use mathlib.Core.Path.{◌≡◌}
 use mathlib.Core.List.{◌++◌}
-use native.Mathlib.Omega.{arith}
-use lib.ListN.{length, take, drop}
-use borrow.Author.Rules.{rules}
-use Rattle.small.proofs.Handing.{copied_more, copied_length}
+use lib.ListN.{take, drop}
 use Rattle.small.proofs.lent.copy.Given as goal
 
 abbrev pub invariant-loop-k : goal.invariant-loop-k

@@ -2,7 +2,6 @@
 use mathlib.Core.Path.{refl}
 use Rattle.book.specs.Bytes.{header_bytes, statements_bytes}
 use Rattle.small.specs.Books.{book_of}
-use borrow.Author.Rules.{rules}
 use Rattle.small.proofs.small.bare.Goals as goal
 
 pub returns : goal.returns

@@ -1,5 +1,4 @@
 -- `small_book` answers the entry at the position, by the number of its statements. Assumes nothing.
-use Prim.Native.Nat.{◌-◌}
 use mathlib.Core.Path.{refl}
 use Rattle.small.proofs.Places.{empty, stands_one, stands_two, stands_entry, past_none}
 use borrow.Author.Rules.{rules}

@@ -4,7 +4,6 @@ use mathlib.Core.List.{[], ◌∷◌}
 use Prim.Native.Nat.{◌%◌}
 use native.Mathlib.Omega.{arith}
 use lib.ListN.{length}
-use borrow.Author.Rules.{rules}
 use Rattle.small.specs.Laying.{added}
 use Rattle.small.proofs.Laying.{added_append, added_length, field_absent, field_present}
 use Rattle.small.proofs.statement.put_field.Goals as goal

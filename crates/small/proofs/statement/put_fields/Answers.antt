@@ -1,10 +1,9 @@
 -- `put_fields` adds the fields of all eight bits: after k of them the others are left. Assumes nothing.
-use Prim.Native.Nat.{◌-◌, ◌≤◌}
 use mathlib.Core.Path.{◌≡◌, refl}
 use native.Mathlib.Omega.{arith}
 use borrow.Author.Rules.{rules}
 use Rattle.small.specs.Laying.{added, field_bytes}
-use Rattle.small.proofs.Laying.{Left, left_room, left_next}
+use Rattle.small.proofs.Laying.{left_room, left_next}
 use Rattle.small.proofs.statement.put_fields.Goals as goal
 
 pub loop-k-init : goal.loop-k-init

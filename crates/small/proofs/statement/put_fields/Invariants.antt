@@ -1,9 +1,6 @@
 use Prim.Native.Nat.{◌-◌, ◌≤◌}
-use mathlib.Core.Path.{◌≡◌, refl}
-use native.Mathlib.Omega.{arith}
-use borrow.Author.Rules.{rules}
 use Rattle.small.specs.Laying.{added, field_bytes}
-use Rattle.small.proofs.Laying.{Left, left_room, left_next}
+use Rattle.small.proofs.Laying.{Left}
 use Rattle.small.proofs.statement.put_fields.Given as goal
 
 abbrev pub invariant-loop-k : goal.invariant-loop-k

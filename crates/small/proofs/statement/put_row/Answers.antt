@@ -1,7 +1,6 @@
 -- `put_row` adds kind, map and fields. Assumes nothing.
 use mathlib.Core.Path.{refl}
 use native.Mathlib.Omega.{arith}
-use borrow.Author.Rules.{rules}
 use Rattle.small.specs.Laying.{added, row_bytes}
 use Rattle.small.proofs.statement.put_row.Goals as goal
 

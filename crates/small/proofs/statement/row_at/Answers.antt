@@ -1,6 +1,5 @@
 -- `row_at` answers the row of statement i: the table is computed from the statements and compared. Assumes nothing.
 use native.Mathlib.Omega.{arith}
-use borrow.Author.Rules.{rules}
 use Rattle.book.specs.Role.{role_of_lem}
 use Rattle.book.specs.Statement.{axiom_of_lem, path_of_lem}
 use Rattle.small.specs.Statements.{small_statements, spare}

@@ -1,5 +1,4 @@
 -- `put_line` writes its three parts.
-use borrow.Author.Rules.{rules}
 use native.Mathlib.Omega.{arith}
 use Rattle.verdict.proofs.list.Writing.{written_then}
 use Rattle.text.specs.Text.{line}

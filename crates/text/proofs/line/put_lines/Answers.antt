@@ -1,11 +1,11 @@
 -- `put_lines` has written the lines of the entries that it has passed.
 use borrow.Author.Rules.{rules}
-use Prim.Native.Nat.{◌-◌, ◌≤◌, ◌/◌}
+use Prim.Native.Nat.{◌/◌}
 use mathlib.Core.Path.{◌≡◌}
 use native.Mathlib.Omega.{arith}
 use native.Mathlib.Nat.{div-mul-le_self, div-le_self}
 use lib.ListN.{length}
-use Rattle.text.proofs.line.Lined.{Lined, lined_none, lined_within, line_entries, lined_more, lined_all}
+use Rattle.text.proofs.line.Lined.{lined_none, lined_within, line_entries, lined_more, lined_all}
 use Rattle.text.proofs.line.put_lines.Goals as goal
 
 pub loop-k-init : goal.loop-k-init

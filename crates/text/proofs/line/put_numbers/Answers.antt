@@ -1,13 +1,9 @@
 -- `put_numbers` has written the numbers that it has passed, each in at most 11 bytes.
 use borrow.Author.Rules.{rules}
-use Prim.Native.Nat.{◌+◌, ◌-◌, ◌*◌, ◌≤◌}
 use mathlib.Core.Path.{◌≡◌, refl}
 use native.Mathlib.Omega.{arith}
-use lib.ListN.{length, get_or}
-use Rattle.rules.specs.Lists.{gather}
-use Rattle.verdict.specs.Listing.{Written}
+use lib.ListN.{length}
 use Rattle.verdict.proofs.list.Writing.{written_none, written_as}
-use Rattle.text.specs.Text.{number}
 use Rattle.text.proofs.Puts.{gather_more}
 use Rattle.text.proofs.line.put_numbers.Goals as goal
 

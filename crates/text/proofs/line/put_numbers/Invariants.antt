@@ -1,13 +1,8 @@
-use borrow.Author.Rules.{rules}
 use Prim.Native.Nat.{◌+◌, ◌-◌, ◌*◌, ◌≤◌}
-use mathlib.Core.Path.{◌≡◌, refl}
-use native.Mathlib.Omega.{arith}
 use lib.ListN.{length, get_or}
 use Rattle.rules.specs.Lists.{gather}
 use Rattle.verdict.specs.Listing.{Written}
-use Rattle.verdict.proofs.list.Writing.{written_none, written_as}
 use Rattle.text.specs.Text.{number}
-use Rattle.text.proofs.Puts.{gather_more}
 use Rattle.text.proofs.line.put_numbers.Given as goal
 
 abbrev pub invariant-loop-i : goal.invariant-loop-i

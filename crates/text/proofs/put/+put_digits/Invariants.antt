@@ -1,4 +1,3 @@
-use Rattle.std.proofs.Common.{◌+◌, ◌-◌, ◌*◌}
 use Rattle.text.proofs.put.+put_digits.Given as goal
 
 abbrev pub decreases-put_digits : goal.decreases-put_digits

@@ -1,5 +1,4 @@
 -- `put_byte` writes the one byte.
-use borrow.Author.Rules.{rules}
 use mathlib.Core.Path.{refl}
 use Rattle.verdict.proofs.list.Writing.{written_one}
 use Rattle.text.proofs.put.put_byte.Goals as goal

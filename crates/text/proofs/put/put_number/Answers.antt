@@ -1,5 +1,4 @@
 -- `put_number` writes a space and the digits.
-use borrow.Author.Rules.{rules}
 use native.Mathlib.Omega.{arith}
 use Rattle.verdict.proofs.list.Writing.{written_then}
 use Rattle.text.proofs.put.put_number.Goals as goal

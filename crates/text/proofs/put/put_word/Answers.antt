@@ -1,10 +1,8 @@
 -- `put_word` has written the bytes of the word that it has passed.
 use borrow.Author.Rules.{rules}
-use Prim.Native.Nat.{◌+◌, ◌-◌, ◌≤◌}
 use mathlib.Core.Path.{◌≡◌}
 use native.Mathlib.Omega.{arith}
-use lib.ListN.{length, take}
-use Rattle.verdict.specs.Listing.{Written}
+use lib.ListN.{length}
 use Rattle.verdict.proofs.list.Writing.{written_none, written_as}
 use Rattle.text.proofs.Puts.{word_more}
 use lib.Seq.{take-length}

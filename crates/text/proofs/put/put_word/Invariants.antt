@@ -1,12 +1,7 @@
-use borrow.Author.Rules.{rules}
 use Prim.Native.Nat.{◌+◌, ◌-◌, ◌≤◌}
 use mathlib.Core.Path.{◌≡◌}
-use native.Mathlib.Omega.{arith}
 use lib.ListN.{length, take}
 use Rattle.verdict.specs.Listing.{Written}
-use Rattle.verdict.proofs.list.Writing.{written_none, written_as}
-use Rattle.text.proofs.Puts.{word_more}
-use lib.Seq.{take-length}
 use Rattle.text.proofs.put.put_word.Given as goal
 
 abbrev pub invariant-loop-i : goal.invariant-loop-i

@@ -1,5 +1,4 @@
 -- `put_end` writes the line of each end.
-use borrow.Author.Rules.{rules}
 use native.Mathlib.Omega.{arith}
 use Rattle.text.proofs.run.put_end.Goals as goal
 

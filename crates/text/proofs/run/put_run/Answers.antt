@@ -1,5 +1,4 @@
 -- `put_run` writes its four parts.
-use borrow.Author.Rules.{rules}
 use native.Mathlib.Omega.{arith}
 use Rattle.text.proofs.run.Printing.{run_printed, run_rest}
 use mathlib.Core.Path.{sym}

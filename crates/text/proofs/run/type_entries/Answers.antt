@@ -1,5 +1,4 @@
 -- `type_entries` counts the entries of a finished run.
-use borrow.Author.Rules.{rules}
 use mathlib.Core.Path.{refl}
 use Rattle.text.proofs.run.type_entries.Goals as goal
 

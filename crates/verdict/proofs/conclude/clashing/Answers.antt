@@ -2,7 +2,6 @@ use Rattle.verdict.specs.Verdict.{clash_in}
 use mathlib.Core.Path.{sym, ◌∙◌}
 use mathlib.Core.Bool.{or-false}
 use Rattle.rules.proofs.Tests.{or_right}
-use borrow.Author.Rules.{rules}
 use Rattle.verdict.proofs.conclude.clashing.Goals as goal
 
 pub returns-then-denied : goal.returns-then-denied

@@ -1,5 +1,4 @@
 use native.Mathlib.Nat.{sub-zero}
-use borrow.Author.Rules.{rules}
 use Rattle.verdict.proofs.conclude.clear_all.Goals as goal
 
 pub returns : goal.returns

@@ -1,6 +1,5 @@
 use native.Mathlib.Omega.{arith}
 use Rattle.verdict.proofs.conclude.Outcomes.{clash_outcome, calm_outcome}
-use borrow.Author.Rules.{rules}
 use Rattle.verdict.proofs.conclude.conclude.Goals as goal
 
 pub overflow_sub-result : goal.overflow_sub-result

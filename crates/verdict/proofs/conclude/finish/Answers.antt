@@ -1,6 +1,5 @@
 use native.Mathlib.Omega.{arith}
 use Rattle.verdict.proofs.conclude.Outcomes.{pairs_few, same_listed, same_counted, refused_outcome, finished_outcome}
-use borrow.Author.Rules.{rules}
 use Rattle.verdict.proofs.conclude.finish.Goals as goal
 
 pub overflow_mul-same : goal.overflow_mul-same

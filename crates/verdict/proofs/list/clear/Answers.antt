@@ -1,8 +1,5 @@
-use Prim.Native.Nat.{◌-◌}
 use native.Mathlib.Omega.{arith}
-use lib.ListN.{length}
-use borrow.Author.Rules.{rules}
-use Rattle.verdict.proofs.list.Writing.{Cleared, cleared_none, cleared_more, cleared_all}
+use Rattle.verdict.proofs.list.Writing.{cleared_none, cleared_more, cleared_all}
 use Rattle.verdict.proofs.list.clear.Goals as goal
 
 pub loop-i-init : goal.loop-i-init

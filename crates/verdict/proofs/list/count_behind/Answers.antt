@@ -1,11 +1,6 @@
-use Prim.Native.Nat.{◌-◌, ◌<◌}
-use mathlib.Core.Bool.{◌&&◌}
-use lib.Dec.{ltb}
 use native.Mathlib.Omega.{arith}
-use borrow.Author.Rules.{rules}
-use Rattle.rows.specs.Row.{has}
 use Rattle.verdict.proofs.list.Gathers.{scan_behind, scan_on}
-use Rattle.verdict.proofs.list.Counting.{Counted, counted_start, counted_more, counted_few, counted_all}
+use Rattle.verdict.proofs.list.Counting.{counted_start, counted_more, counted_few, counted_all}
 use Rattle.verdict.proofs.list.count_behind.Goals as goal
 
 pub loop-b-init : goal.loop-b-init

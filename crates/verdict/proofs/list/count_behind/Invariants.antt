@@ -1,11 +1,8 @@
 use Prim.Native.Nat.{◌-◌, ◌<◌}
 use mathlib.Core.Bool.{◌&&◌}
 use lib.Dec.{ltb}
-use native.Mathlib.Omega.{arith}
-use borrow.Author.Rules.{rules}
 use Rattle.rows.specs.Row.{has}
-use Rattle.verdict.proofs.list.Gathers.{scan_behind, scan_on}
-use Rattle.verdict.proofs.list.Counting.{Counted, counted_start, counted_more, counted_few, counted_all}
+use Rattle.verdict.proofs.list.Counting.{Counted}
 use Rattle.verdict.proofs.list.count_behind.Given as goal
 
 abbrev pub invariant-loop-b : goal.invariant-loop-b

@@ -1,7 +1,5 @@
-use Prim.Native.Nat.{◌-◌}
 use native.Mathlib.Omega.{arith}
-use borrow.Author.Rules.{rules}
-use Rattle.verdict.proofs.list.Counting.{CountedPairs, pairs_none, pairs_next, pairs_all}
+use Rattle.verdict.proofs.list.Counting.{pairs_none, pairs_next, pairs_all}
 use Rattle.verdict.proofs.list.count_pairs.Goals as goal
 
 pub loop-i-init : goal.loop-i-init

@@ -1,7 +1,5 @@
 use Prim.Native.Nat.{◌-◌}
-use native.Mathlib.Omega.{arith}
-use borrow.Author.Rules.{rules}
-use Rattle.verdict.proofs.list.Counting.{CountedPairs, pairs_none, pairs_next, pairs_all}
+use Rattle.verdict.proofs.list.Counting.{CountedPairs}
 use Rattle.verdict.proofs.list.count_pairs.Given as goal
 
 abbrev pub invariant-loop-i : goal.invariant-loop-i

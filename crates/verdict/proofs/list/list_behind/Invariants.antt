@@ -1,14 +1,10 @@
 use Prim.Native.Nat.{◌-◌, ◌<◌}
 use mathlib.Core.Bool.{◌&&◌}
 use lib.Dec.{ltb}
-use native.Mathlib.Omega.{arith}
-use borrow.Author.Rules.{rules}
 use Rattle.rows.specs.Row.{has}
 use Rattle.rules.specs.Fact.{two}
 use Rattle.rules.specs.Lists.{only, entries2}
-use Rattle.rules.proofs.Ended.{length_entries2}
-use Rattle.verdict.proofs.list.Gathers.{scan_behind, scan_on}
-use Rattle.verdict.proofs.list.Rows.{Listed, lays_two, members_start, members_more, members_room, listed_all}
+use Rattle.verdict.proofs.list.Rows.{Listed}
 use Rattle.verdict.proofs.list.list_behind.Given as goal
 
 abbrev pub invariant-loop-b : goal.invariant-loop-b

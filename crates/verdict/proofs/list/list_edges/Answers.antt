@@ -1,12 +1,9 @@
-use Prim.Native.Nat.{◌-◌}
 use native.Mathlib.Omega.{arith}
 use mathlib.Core.Path.{◌∙◌}
-use borrow.Author.Rules.{rules}
-use Rattle.rules.specs.Lists.{entries3}
 use Rattle.rules.proofs.Ended.{length_entries3}
-use Rattle.verdict.specs.Listing.{edges_of_lem, all_edges_lem}
+use Rattle.verdict.specs.Listing.{all_edges_lem}
 use Rattle.verdict.proofs.list.Writing.{written_filled}
-use Rattle.verdict.proofs.list.Rows.{Rows, lays_three, rows_start, rows_more, rows_room, rows_all, rows_end}
+use Rattle.verdict.proofs.list.Rows.{lays_three, rows_start, rows_more, rows_room, rows_all, rows_end}
 use Rattle.verdict.proofs.list.list_edges.Goals as goal
 
 pub loop-r-init : goal.loop-r-init

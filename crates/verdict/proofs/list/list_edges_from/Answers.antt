@@ -1,12 +1,7 @@
-use Prim.Native.Nat.{◌-◌}
 use native.Mathlib.Omega.{arith}
-use borrow.Author.Rules.{rules}
-use Rattle.rows.specs.Row.{has}
-use Rattle.rules.specs.Fact.{three}
-use Rattle.rules.specs.Lists.{only, entries3}
 use Rattle.rules.proofs.Ended.{length_entries3}
 use Rattle.verdict.proofs.list.Rows.{lays_three}
-use Rattle.verdict.proofs.list.Words.{Words, words_start, words_more, words_room, words_all}
+use Rattle.verdict.proofs.list.Words.{words_start, words_more, words_room, words_all}
 use Rattle.verdict.proofs.list.Room.{lead_room, edges_fit}
 use Rattle.verdict.proofs.list.list_edges_from.Goals as goal
 

@@ -1,12 +1,8 @@
 use Prim.Native.Nat.{◌-◌, ◌*◌}
-use native.Mathlib.Omega.{arith}
-use borrow.Author.Rules.{rules}
 use Rattle.rows.specs.Row.{has}
 use Rattle.rules.specs.Lists.{entries3}
-use Rattle.rules.proofs.Ended.{length_entries3}
 use Rattle.verdict.specs.Listing.{edges_from}
-use Rattle.verdict.proofs.list.Rows.{Listed, lays_three, listed_start, listed_more, listed_room, listed_all}
-use Rattle.verdict.proofs.list.Room.{start_room, edges_none}
+use Rattle.verdict.proofs.list.Rows.{Listed}
 use Rattle.verdict.proofs.list.list_edges_of.Given as goal
 
 abbrev pub invariant-loop-a : goal.invariant-loop-a

@@ -1,13 +1,7 @@
-use native.Mathlib.Omega.{arith}
-use borrow.Author.Rules.{rules}
 use Rattle.rows.specs.Row.{has}
-use Rattle.rows.proofs.row.Scans.{word_row}
-use Rattle.rows.proofs.row.Walks.{rest_start, drop_less}
 use Rattle.rules.specs.Fact.{three}
 use Rattle.rules.specs.Lists.{entries3}
-use Rattle.rules.proofs.Ended.{length_entries3}
-use Rattle.verdict.proofs.list.Rows.{lays_three}
-use Rattle.verdict.proofs.list.Words.{Bits, bits_start, bits_more, bits_room, bits_past, bits_all}
+use Rattle.verdict.proofs.list.Words.{Bits}
 use Rattle.verdict.proofs.list.list_edges_word.Given as goal
 
 abbrev pub invariant-loop-y : goal.invariant-loop-y

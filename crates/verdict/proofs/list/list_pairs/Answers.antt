@@ -1,13 +1,9 @@
-use Prim.Native.Nat.{◌-◌}
 use native.Mathlib.Omega.{arith}
 use mathlib.Core.Path.{◌∙◌}
-use lib.ListN.{get_or}
-use borrow.Author.Rules.{rules}
-use Rattle.rules.specs.Lists.{entries2}
 use Rattle.rules.proofs.Ended.{length_entries2}
-use Rattle.verdict.specs.Listing.{behind_of, pairs_of_lem}
+use Rattle.verdict.specs.Listing.{pairs_of_lem}
 use Rattle.verdict.proofs.list.Writing.{written_filled}
-use Rattle.verdict.proofs.list.Rows.{Rows, lays_two, rows_start, rows_more, rows_room, rows_all, rows_end}
+use Rattle.verdict.proofs.list.Rows.{lays_two, rows_start, rows_more, rows_room, rows_all, rows_end}
 use Rattle.verdict.proofs.list.list_pairs.Goals as goal
 
 pub loop-i-init : goal.loop-i-init

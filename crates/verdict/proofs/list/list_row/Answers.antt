@@ -1,12 +1,7 @@
-use Prim.Native.Nat.{◌-◌}
 use native.Mathlib.Omega.{arith}
-use borrow.Author.Rules.{rules}
-use Rattle.rows.specs.Row.{has}
-use Rattle.rules.specs.Fact.{two}
-use Rattle.rules.specs.Lists.{only, entries2}
 use Rattle.rules.proofs.Ended.{length_entries2}
 use Rattle.verdict.proofs.list.Rows.{lays_two}
-use Rattle.verdict.proofs.list.Words.{Words, words_start, words_more, words_room, words_all}
+use Rattle.verdict.proofs.list.Words.{words_start, words_more, words_room, words_all}
 use Rattle.verdict.proofs.list.list_row.Goals as goal
 
 pub loop-w-init : goal.loop-w-init

@@ -1,13 +1,10 @@
-use Prim.Native.Nat.{◌-◌}
 use native.Mathlib.Omega.{arith}
 use mathlib.Core.Path.{◌∙◌}
-use borrow.Author.Rules.{rules}
-use Rattle.rules.specs.Lists.{entries2}
 use Rattle.rules.proofs.Ended.{length_entries2}
 use Rattle.verdict.specs.Listing.{types_of}
 use Rattle.verdict.proofs.list.Writing.{written_filled, written_half}
-use Rattle.verdict.proofs.list.Rows.{Rows, lays_two, rows_start, rows_more, rows_room, rows_all, rows_end}
-use Rattle.verdict.proofs.list.Room.{lead_room, types_from, types_fit}
+use Rattle.verdict.proofs.list.Rows.{lays_two, rows_start, rows_more, rows_room, rows_all, rows_end}
+use Rattle.verdict.proofs.list.Room.{lead_room, types_fit}
 use Rattle.verdict.proofs.list.list_types.Goals as goal
 
 pub loop-i-init : goal.loop-i-init

@@ -1,13 +1,9 @@
 use native.Mathlib.Omega.{arith}
-use borrow.Author.Rules.{rules}
-use Rattle.rows.specs.Row.{has}
 use Rattle.rows.proofs.row.Scans.{word_row}
 use Rattle.rows.proofs.row.Walks.{rest_start, drop_less}
-use Rattle.rules.specs.Fact.{two}
-use Rattle.rules.specs.Lists.{entries2}
 use Rattle.rules.proofs.Ended.{length_entries2}
 use Rattle.verdict.proofs.list.Rows.{lays_two}
-use Rattle.verdict.proofs.list.Words.{Bits, bits_start, bits_more, bits_room, bits_past, bits_all}
+use Rattle.verdict.proofs.list.Words.{bits_start, bits_more, bits_room, bits_past, bits_all}
 use Rattle.verdict.proofs.list.list_word.Goals as goal
 
 pub loop-y-init : goal.loop-y-init

@@ -1,6 +1,5 @@
 use native.Mathlib.Omega.{arith}
 use lib.ListN.{length-set}
-use borrow.Author.Rules.{rules}
 use Rattle.verdict.proofs.list.Writing.{written_three}
 use Rattle.verdict.proofs.list.put_three.Goals as goal
 

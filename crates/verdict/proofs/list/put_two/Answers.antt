@@ -1,6 +1,5 @@
 use native.Mathlib.Omega.{arith}
 use lib.ListN.{length-set}
-use borrow.Author.Rules.{rules}
 use Rattle.verdict.proofs.list.Writing.{written_two}
 use Rattle.verdict.proofs.list.put_two.Goals as goal
 

@@ -1,4 +1,3 @@
-use borrow.Author.Rules.{rules}
 use Rattle.said.specs.declared.layout.Relation.TheVariants.{Functional, Disjoint, Takers}
 use Rattle.said.proofs.layout.Parts.{part_room}
 use Rattle.verdict.proofs.verdict.Clashes.{clash_rows, clash_markers}

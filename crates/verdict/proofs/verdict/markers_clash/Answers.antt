@@ -1,9 +1,5 @@
-use Prim.Native.Nat.{◌-◌, ◌*◌, ◌≤◌}
-use mathlib.Core.Bool.{false, ◌&&◌}
 use native.Mathlib.Omega.{arith}
-use Rattle.rows.specs.Row.{has}
-use Rattle.rows.proofs.row.Scans.{Past, past_none}
-use Rattle.verdict.specs.Verdict.{rows_clash_lem, marker_row}
+use Rattle.rows.proofs.row.Scans.{past_none}
 use Rattle.verdict.proofs.verdict.Searches.{past_more, past_end, past_found}
 use Rattle.verdict.proofs.verdict.markers_clash.Goals as goal
 

@@ -1,10 +1,8 @@
 use Prim.Native.Nat.{◌-◌, ◌*◌, ◌≤◌}
 use mathlib.Core.Bool.{false, ◌&&◌}
-use native.Mathlib.Omega.{arith}
 use Rattle.rows.specs.Row.{has}
-use Rattle.rows.proofs.row.Scans.{Past, past_none}
+use Rattle.rows.proofs.row.Scans.{Past}
 use Rattle.verdict.specs.Verdict.{rows_clash_lem, marker_row}
-use Rattle.verdict.proofs.verdict.Searches.{past_more, past_end, past_found}
 use Rattle.verdict.proofs.verdict.markers_clash.Given as goal
 
 abbrev pub invariant-loop-r : goal.invariant-loop-r

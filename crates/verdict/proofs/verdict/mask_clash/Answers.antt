@@ -1,9 +1,5 @@
-use Prim.Native.Nat.{◌+◌, ◌-◌}
-use mathlib.Core.Bool.{◌&&◌}
 use native.Mathlib.Omega.{arith}
-use Rattle.rows.specs.Row.{has}
-use Rattle.verdict.specs.Verdict.{counting, meeting}
-use Rattle.verdict.proofs.verdict.Searches.{Sought, sought_first, sought_next, sought_end, sought_found}
+use Rattle.verdict.proofs.verdict.Searches.{sought_first, sought_next, sought_end, sought_found}
 use Rattle.verdict.proofs.verdict.mask_clash.Goals as goal
 
 pub next-d-requires : goal.next-d-requires

@@ -1,4 +1,3 @@
-use borrow.Author.Rules.{rules}
 use Rattle.verdict.proofs.verdict.may_clash.Goals as goal
 
 pub returns : goal.returns

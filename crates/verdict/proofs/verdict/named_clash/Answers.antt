@@ -1,5 +1,4 @@
 use mathlib.Core.Path.{sym, ◌∙◌}
-use borrow.Author.Rules.{rules}
 use Rattle.verdict.proofs.verdict.named_clash.Goals as goal
 
 pub returns-then-member : goal.returns-then-member

@@ -1,6 +1,5 @@
 use mathlib.Core.Path.{◌∙◌}
 use mathlib.Core.Bool.{false}
-use borrow.Author.Rules.{rules}
 use Rattle.verdict.proofs.verdict.Clashes.{rows_clash_blank}
 use Rattle.verdict.proofs.verdict.role_clash.Goals as goal
 

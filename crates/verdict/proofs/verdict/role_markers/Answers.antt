@@ -1,12 +1,6 @@
-use Prim.Native.Nat.{◌-◌, ◌≤◌}
 use mathlib.Core.Path.{◌≡◌}
-use mathlib.Core.Bool.{◌&&◌}
 use native.Mathlib.Omega.{arith}
-use lib.ListN.{get_or}
-use Rattle.rows.specs.Row.{has}
-use Rattle.rows.specs.Table.{leads}
-use Rattle.verdict.specs.Verdict.{meeting, marker_for}
-use Rattle.verdict.proofs.verdict.Markings.{Brought, brought_none, brought_more, markers_brought}
+use Rattle.verdict.proofs.verdict.Markings.{brought_none, brought_more, markers_brought}
 use Rattle.verdict.proofs.verdict.role_markers.Goals as goal
 
 pub loop-k-init : goal.loop-k-init

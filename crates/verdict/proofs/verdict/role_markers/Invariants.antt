@@ -1,12 +1,10 @@
 use Prim.Native.Nat.{◌-◌, ◌≤◌}
-use mathlib.Core.Path.{◌≡◌}
 use mathlib.Core.Bool.{◌&&◌}
-use native.Mathlib.Omega.{arith}
 use lib.ListN.{get_or}
 use Rattle.rows.specs.Row.{has}
 use Rattle.rows.specs.Table.{leads}
 use Rattle.verdict.specs.Verdict.{meeting, marker_for}
-use Rattle.verdict.proofs.verdict.Markings.{Brought, brought_none, brought_more, markers_brought}
+use Rattle.verdict.proofs.verdict.Markings.{Brought}
 use Rattle.verdict.proofs.verdict.role_markers.Given as goal
 
 abbrev pub invariant-loop-k : goal.invariant-loop-k

@@ -1,5 +1,4 @@
 use mathlib.Core.Path.{◌∙◌}
-use borrow.Author.Rules.{rules}
 use Rattle.verdict.proofs.verdict.Clashes.{row_clash_taken}
 use Rattle.verdict.proofs.verdict.row_clash.Goals as goal
 

@@ -1,10 +1,8 @@
 use Prim.Native.Nat.{◌+◌, ◌-◌, ◌≤◌}
 use mathlib.Core.Path.{◌≡◌}
-use native.Mathlib.Omega.{arith}
 use Rattle.rows.specs.Row.{has}
-use Rattle.rows.proofs.row.Scans.{Past, past_none}
-use Rattle.verdict.specs.Verdict.{row_clash_lem, rows_clash_lem}
-use Rattle.verdict.proofs.verdict.Searches.{past_more, past_end, past_found}
+use Rattle.rows.proofs.row.Scans.{Past}
+use Rattle.verdict.specs.Verdict.{row_clash_lem}
 use Rattle.verdict.proofs.verdict.rows_clash.Given as goal
 
 abbrev pub invariant-loop-c : goal.invariant-loop-c

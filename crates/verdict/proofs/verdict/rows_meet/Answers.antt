@@ -1,5 +1,4 @@
 use mathlib.Core.Path.{sym, ◌∙◌}
-use borrow.Author.Rules.{rules}
 use Rattle.verdict.proofs.verdict.Searches.{meets_any}
 use Rattle.verdict.proofs.verdict.rows_meet.Goals as goal
 

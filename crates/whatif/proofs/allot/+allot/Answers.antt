@@ -1,9 +1,7 @@
-use borrow.Author.Rules.{rules}
 use native.Mathlib.Omega.{arith}
 use Rattle.rounds.proofs.Facts.{open_sized}
 use Rattle.tables.proofs.Open.{open_limits}
 use Rattle.saturation.proofs.allot.Words.{most_rows}
-use Prim.Native.Nat.{ℕ, ◌<◌, ◌-◌}
 use Rattle.whatif.proofs.allot.+allot.Goals as goal
 
 pub wanted-size-requires : goal.wanted-size-requires

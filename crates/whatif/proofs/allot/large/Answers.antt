@@ -1,6 +1,5 @@
 use Prim.Native.Nat.{ℕ, ◌+◌, ◌*◌, ◌≤◌}
-use native.Mathlib.Omega.{arith}
-use mathlib.Core.Path.{◌≡◌, sym, ◌∙◌, subst}
+use mathlib.Core.Path.{sym, ◌∙◌, subst}
 use mathlib.Core.List.{[], ◌∷◌, ◌++◌}
 use lib.ListN.{length-replicate}
 use Rattle.book.specs.Statement.{as_statement}
@@ -12,10 +11,9 @@ use Rattle.said.specs.Layout.{layout_of, total_rows}
 use Rattle.saturation.specs.Run.{heard, heard_book}
 use Rattle.saturation.proofs.run.Closing.{heard_inside}
 use Rattle.saturation.proofs.allot.Words.{within}
-use Rattle.whatif.proofs.allot.Words.{small_lent_lem, small_chain, large_lent_lem, large_chain}
+use Rattle.whatif.proofs.allot.Words.{large_lent_lem, large_chain}
 use Rattle.whatif.proofs.Answering.{copy_inside}
 use Rattle.whatif.proofs.Prospects.{answer_alone, answer_refused, go_read, go_few, go_admitted, go_ongoing, go_filled, answer_went, answer_either}
-use borrow.Author.Rules.{rules}
 use Rattle.whatif.proofs.allot.large.Goals as goal
 
 pub slice_bounds-draw-end : goal.slice_bounds-draw-end

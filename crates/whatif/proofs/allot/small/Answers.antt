@@ -1,21 +1,19 @@
 use Prim.Native.Nat.{ℕ, ◌+◌, ◌*◌, ◌≤◌}
 use native.Mathlib.Omega.{arith}
-use mathlib.Core.Path.{◌≡◌, sym, ◌∙◌, subst}
+use mathlib.Core.Path.{sym, ◌∙◌, subst}
 use mathlib.Core.List.{[], ◌∷◌, ◌++◌}
 use lib.ListN.{length-replicate}
 use Rattle.book.specs.Statement.{as_statement}
 use Rattle.rules.specs.Spoken.{anyone}
 use Rattle.rules.proofs.Tests.{false_true}
 use Rattle.tables.specs.Open.{book_with}
-use Rattle.tables.proofs.Open.{open_limits}
 use Rattle.said.specs.Layout.{layout_of, total_rows}
 use Rattle.saturation.specs.Run.{heard, heard_book}
 use Rattle.saturation.proofs.run.Closing.{heard_inside}
 use Rattle.saturation.proofs.allot.Words.{within}
-use Rattle.whatif.proofs.allot.Words.{small_lent_lem, small_chain, large_lent_lem, large_chain}
+use Rattle.whatif.proofs.allot.Words.{small_lent_lem, small_chain}
 use Rattle.whatif.proofs.Answering.{copy_inside}
 use Rattle.whatif.proofs.Prospects.{answer_alone, answer_refused, go_read, go_few, go_admitted, go_ongoing, go_filled, answer_went, answer_either}
-use borrow.Author.Rules.{rules}
 use Rattle.whatif.proofs.allot.small.Goals as goal
 
 pub draw-drawing-requires : goal.draw-drawing-requires

@@ -1,5 +1,4 @@
 use Rattle.whatif.proofs.Beginning.{begin-ways}
-use borrow.Author.Rules.{rules}
 use Rattle.whatif.proofs.answer.begin.Goals as goal
 
 pub returns-in_default : goal.returns-in_default

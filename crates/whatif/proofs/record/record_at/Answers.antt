@@ -1,4 +1,3 @@
-use borrow.Author.Rules.{rules}
 use Rattle.whatif.proofs.record.Ways.{record-ways}
 use Rattle.whatif.proofs.record.record_at.Goals as goal
 

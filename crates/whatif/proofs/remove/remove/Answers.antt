@@ -4,7 +4,6 @@ use Rattle.verdict.specs.Conclude.{end_of}
 use Rattle.whatif.specs.Minus.{rows2, rows3}
 use Rattle.whatif.proofs.Beginning.{not_finished}
 use Rattle.whatif.proofs.Listed.{removed, types_stand, edges_stand, pairs_stand}
-use borrow.Author.Rules.{rules}
 use Rattle.whatif.proofs.remove.remove.Goals as goal
 
 pub returns-in_default : goal.returns-in_default

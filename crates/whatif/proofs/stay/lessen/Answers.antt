@@ -1,6 +1,5 @@
 use mathlib.Core.Path.{refl, sym, ◌∙◌}
 use Rattle.rules.proofs.Tests.{false_true}
-use borrow.Author.Rules.{rules}
 use Rattle.whatif.proofs.stay.lessen.Goals as goal
 
 pub remove-requires : goal.remove-requires

@@ -2,7 +2,6 @@ use mathlib.Core.Path.{sym, ◌∙◌, subst}
 use Rattle.book.specs.Header.{Limits}
 use Rattle.rules.proofs.Tests.{false_true}
 use Rattle.said.proofs.layout.Places.{placed_of}
-use borrow.Author.Rules.{rules}
 use Rattle.whatif.proofs.stay.read_on.Goals as goal
 
 pub returns-then-again : goal.returns-then-again

@@ -1,11 +1,9 @@
-use Prim.Native.Nat.{ℕ}
 use native.Mathlib.Omega.{arith}
-use mathlib.Core.Path.{◌≡◌, sym, ◌∙◌, ap}
+use mathlib.Core.Path.{◌∙◌, ap}
 use Rattle.verdict.specs.Conclude.{end_of}
 use Rattle.whatif.proofs.Beginning.{not_finished}
 use Rattle.whatif.proofs.Staying.{came_cleared, stayed_other, stayed_clash, stayed_11, stayed_none}
 use Rattle.verdict.specs.declared.end.End.TheVariants as answer
-use borrow.Author.Rules.{rules}
 use Rattle.whatif.proofs.stay.stay.Goals as goal
 
 pub returns-in_default : goal.returns-in_default

@@ -1,9 +1,5 @@
 use Prim.Native.Nat.{◌-◌, ◌≤◌}
-use native.Mathlib.Omega.{arith}
-use mathlib.Core.Path.{◌≡◌}
 use Rattle.whatif.specs.Minus.{Moved}
-use Rattle.whatif.proofs.Minus.{moved_none, moved_more}
-use borrow.Author.Rules.{rules}
 use Rattle.whatif.proofs.subtract.move_row.Given as goal
 
 abbrev pub invariant-loop-c : goal.invariant-loop-c

@@ -1,6 +1,5 @@
 use mathlib.Core.Path.{refl}
 use mathlib.Core.Logic.{inl, inr}
-use borrow.Author.Rules.{rules}
 use Rattle.whatif.proofs.subtract.pass_row.Goals as goal
 
 pub returns-then-stands : goal.returns-then-stands

@@ -1,10 +1,7 @@
-use Prim.Native.Nat.{◌-◌, ◌≤◌}
 use native.Mathlib.Omega.{arith}
 use mathlib.Core.Path.{◌≡◌, refl, sym}
-use lib.ListN.{take, drop}
 use Rattle.rules.proofs.Tests.{false_true}
 use Rattle.whatif.proofs.Minus.{row_more, row_at}
-use borrow.Author.Rules.{rules}
 use Rattle.whatif.proofs.subtract.same_row.Goals as goal
 
 pub loop-c-init : goal.loop-c-init

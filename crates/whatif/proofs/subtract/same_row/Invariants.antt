@@ -1,10 +1,6 @@
 use Prim.Native.Nat.{◌-◌, ◌≤◌}
-use native.Mathlib.Omega.{arith}
-use mathlib.Core.Path.{◌≡◌, refl, sym}
+use mathlib.Core.Path.{◌≡◌}
 use lib.ListN.{take, drop}
-use Rattle.rules.proofs.Tests.{false_true}
-use Rattle.whatif.proofs.Minus.{row_more, row_at}
-use borrow.Author.Rules.{rules}
 use Rattle.whatif.proofs.subtract.same_row.Given as goal
 
 abbrev pub invariant-loop-c : goal.invariant-loop-c

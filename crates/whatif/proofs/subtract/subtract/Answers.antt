@@ -1,11 +1,6 @@
-use Prim.Native.Nat.{ℕ, ◌-◌, ◌≤◌}
 use native.Mathlib.Omega.{arith}
-use mathlib.Core.Path.{◌≡◌, refl, sym, ◌∙◌}
-use mathlib.Core.List.{List}
-use lib.ListN.{length}
-use Rattle.whatif.specs.Minus.{Standing}
-use Rattle.whatif.proofs.Minus.{Walked, walk_start, walk_room, walk_other, walk_low, walk_few, walk_on, walk_end, standing_room, went_len}
-use borrow.Author.Rules.{rules}
+use mathlib.Core.Path.{refl, sym, ◌∙◌}
+use Rattle.whatif.proofs.Minus.{walk_start, walk_room, walk_other, walk_low, walk_few, walk_on, walk_end, standing_room, went_len}
 use Rattle.whatif.proofs.subtract.subtract.Goals as goal
 
 pub loop-i-init : goal.loop-i-init

@@ -1,11 +1,9 @@
-use Prim.Native.Nat.{ℕ, ◌-◌, ◌≤◌}
-use native.Mathlib.Omega.{arith}
-use mathlib.Core.Path.{◌≡◌, refl, sym, ◌∙◌}
+use Prim.Native.Nat.{ℕ, ◌-◌}
+use mathlib.Core.Path.{◌≡◌}
 use mathlib.Core.List.{List}
 use lib.ListN.{length}
 use Rattle.whatif.specs.Minus.{Standing}
-use Rattle.whatif.proofs.Minus.{Walked, walk_start, walk_room, walk_other, walk_low, walk_few, walk_on, walk_end, standing_room, went_len}
-use borrow.Author.Rules.{rules}
+use Rattle.whatif.proofs.Minus.{Walked}
 use Rattle.whatif.proofs.subtract.subtract.Given as goal
 
 abbrev pub invariant-loop-i : goal.invariant-loop-i

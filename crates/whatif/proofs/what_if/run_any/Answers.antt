@@ -1,6 +1,5 @@
 use Rattle.book.proofs.Accepted.{accepted_limits}
 use Rattle.saturation.proofs.allot.Words.{within}
-use borrow.Author.Rules.{rules}
 use Rattle.whatif.proofs.what_if.run_any.Goals as goal
 
 pub run_checked-requires : goal.run_checked-requires

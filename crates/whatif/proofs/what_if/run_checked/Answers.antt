@@ -7,7 +7,6 @@ use Rattle.tables.proofs.Open.{checked_open, checked_rest}
 use Rattle.saturation.proofs.saturate.Answers.{checked_room}
 use Rattle.whatif.proofs.Answering.{effect_is}
 use Rattle.whatif.proofs.Prospects.{alone_effect, record_within, record_inside}
-use borrow.Author.Rules.{rules}
 use Rattle.whatif.proofs.what_if.run_checked.Goals as goal
 
 pub allot-requires : goal.allot-requires

@@ -1,7 +1,6 @@
 use native.Mathlib.Omega.{arith}
 use Rattle.book.proofs.Short.{short_concepts}
 use Rattle.saturation.proofs.allot.Words.{within}
-use borrow.Author.Rules.{rules}
 use Rattle.whatif.proofs.what_if.run_short.Goals as goal
 
 pub run_checked-requires : goal.run_checked-requires

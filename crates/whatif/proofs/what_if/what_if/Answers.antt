@@ -1,7 +1,6 @@
 use native.Mathlib.Omega.{arith}
 use Rattle.rules.proofs.Ended.{refused_1, refused_2, refused_3}
 use Rattle.whatif.proofs.Prospects.{alone_effect}
-use borrow.Author.Rules.{rules}
 use Rattle.whatif.proofs.what_if.what_if.Goals as goal
 
 pub returns-then-budget-gt1000000 : goal.returns-then-budget-gt1000000

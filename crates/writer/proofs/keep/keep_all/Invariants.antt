@@ -1,12 +1,7 @@
-use Prim.Native.Nat.{ℕ, ◌+◌, ◌*◌, ◌-◌, ◌≤◌, ◌<◌}
-use native.Mathlib.Omega.{arith}
-use mathlib.Core.Path.{◌≡◌, refl, sym, ◌∙◌}
-use borrow.Author.Rules.{rules}
+use Prim.Native.Nat.{◌-◌}
+use mathlib.Core.Path.{◌≡◌}
 use lib.ListN.{length}
-use Rattle.book.specs.Bytes.{Bytes}
-use Rattle.book.proofs.reader.Laws.{turn_goes}
 use Rattle.writer.specs.Gathering.{Gathering}
-use Rattle.writer.proofs.Going.{gathering_begin, gathering_end, gathering_room, gathering_over}
 use Rattle.writer.proofs.keep.keep_all.Given as goal
 
 abbrev pub invariant-loop-next : goal.invariant-loop-next

@@ -1,8 +1,6 @@
 use Prim.Native.Nat.{◌+◌, ◌-◌, ◌≤◌}
-use native.Mathlib.Omega.{arith}
 use mathlib.Core.Path.{◌≡◌}
 use Rattle.writer.specs.Lay.{total}
-use Rattle.writer.proofs.Over.{total_none, total_more, records_room}
 use Rattle.writer.proofs.lay.end_of.Given as goal
 
 abbrev pub invariant-loop-k : goal.invariant-loop-k

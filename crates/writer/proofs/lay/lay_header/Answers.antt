@@ -4,7 +4,6 @@ use mathlib.Core.Path.{ap, ◌∙◌}
 use Rattle.book.specs.Bytes.{two_of}
 use Rattle.writer.specs.Lay.{over}
 use Rattle.writer.proofs.Over.{header_kept, header_recounted}
-use borrow.Author.Rules.{rules}
 use Rattle.writer.proofs.lay.lay_header.Goals as goal
 
 pub returns-then-count-eq0 : goal.returns-then-count-eq0

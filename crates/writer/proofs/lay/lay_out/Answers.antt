@@ -1,5 +1,4 @@
 use Rattle.writer.proofs.Over.{laid_all}
-use borrow.Author.Rules.{rules}
 use Rattle.writer.proofs.lay.lay_out.Goals as goal
 
 pub returns : goal.returns

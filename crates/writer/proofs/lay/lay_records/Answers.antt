@@ -1,8 +1,7 @@
-use Prim.Native.Nat.{◌+◌, ◌-◌, ◌≤◌}
 use native.Mathlib.Omega.{arith}
 use mathlib.Core.Path.{◌≡◌, refl, sym, ap, ◌∙◌}
 use lib.ListN.{length}
-use Rattle.writer.specs.Lay.{over, total, records_bytes}
+use Rattle.writer.specs.Lay.{over}
 use Rattle.writer.proofs.Over.{over_none, total_none, total_more, records_none, records_over, records_room}
 use Rattle.writer.proofs.lay.lay_records.Goals as goal
 

@@ -1,7 +1,6 @@
 use native.Mathlib.Omega.{arith}
 use lib.ListN.{length-set}
 use Rattle.writer.proofs.Over.{over_two}
-use borrow.Author.Rules.{rules}
 use Rattle.writer.proofs.lay.put.Goals as goal
 
 pub bounds-out-at-2 : goal.bounds-out-at-2

@@ -1,7 +1,6 @@
 use native.Mathlib.Omega.{arith}
 use mathlib.Core.Path.{◌∙◌}
 use Rattle.writer.proofs.Digits.{digit_past, digit_there}
-use borrow.Author.Rules.{rules}
 use Rattle.writer.proofs.record.digit.Goals as goal
 
 pub returns-then-n-d : goal.returns-then-n-d

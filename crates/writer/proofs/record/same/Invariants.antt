@@ -1,8 +1,4 @@
-use Prim.Native.Nat.{ℕ, ◌-◌, ◌≤◌}
-use native.Mathlib.Omega.{arith}
-use mathlib.Core.Path.{◌≡◌}
-use borrow.Author.Rules.{rules}
-use borrow.Author.Count.{below_more}
+use Prim.Native.Nat.{◌-◌, ◌≤◌}
 use Rattle.writer.specs.Record.{Alike}
 use Rattle.writer.proofs.record.same.Given as goal
 

@@ -5,7 +5,6 @@ use mathlib.Core.List.{List}
 use lib.ListN.{length, set}
 use Rattle.writer.specs.Tree.{Tree, Kept}
 use Rattle.writer.proofs.Entered.{slot_room, tree_first, tree_new, kept_old, kept_new}
-use borrow.Author.Rules.{rules}
 use Rattle.writer.proofs.tree.keep.Goals as goal
 
 pub returns-then-count-eq0 : goal.returns-then-count-eq0

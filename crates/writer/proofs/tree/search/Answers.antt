@@ -1,7 +1,6 @@
-use Prim.Native.Nat.{◌-◌}
 use native.Mathlib.Omega.{arith}
 use mathlib.Core.Path.{sym, ◌∙◌}
-use Rattle.writer.proofs.Ways.{Walk, walk_begin, walk_on, walk_less, search_already, search_free}
+use Rattle.writer.proofs.Ways.{walk_begin, walk_on, walk_less, search_already, search_free}
 use Rattle.writer.proofs.tree.search.Goals as goal
 
 pub loop-count-init : goal.loop-count-init

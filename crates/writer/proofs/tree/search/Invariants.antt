@@ -1,7 +1,5 @@
 use Prim.Native.Nat.{◌-◌}
-use native.Mathlib.Omega.{arith}
-use mathlib.Core.Path.{sym, ◌∙◌}
-use Rattle.writer.proofs.Ways.{Walk, walk_begin, walk_on, walk_less, search_already, search_free}
+use Rattle.writer.proofs.Ways.{Walk}
 use Rattle.writer.proofs.tree.search.Given as goal
 
 abbrev pub invariant-loop-count : goal.invariant-loop-count

@@ -1,7 +1,6 @@
 use mathlib.Core.Path.{◌∙◌}
 use Rattle.book.proofs.Accepted.{checked_accepted, checked_refused}
 use Rattle.writer.proofs.Parts.{located, writes_accepted, writes_refused}
-use borrow.Author.Rules.{rules}
 use Rattle.writer.proofs.write.write.Goals as goal
 
 pub write_accepted-requires : goal.write_accepted-requires

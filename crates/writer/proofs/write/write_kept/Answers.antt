@@ -1,7 +1,6 @@
 use native.Mathlib.Omega.{arith}
 use Rattle.book.specs.Bytes.{Bytes}
 use Rattle.writer.proofs.Parts.{located_many, located_limits, parts_end, parts_fit, writes_short, writes_fits}
-use borrow.Author.Rules.{rules}
 use Rattle.writer.proofs.write.write_kept.Goals as goal
 
 pub keep_all-count-requires : goal.keep_all-count-requires

@@ -1,7 +1,6 @@
 use native.Mathlib.Omega.{arith}
 use Rattle.writer.proofs.Entered.{room_blank}
 use Rattle.writer.proofs.Parts.{located_limits}
-use borrow.Author.Rules.{rules}
 use Rattle.writer.proofs.write.write_large.Goals as goal
 
 pub write_kept-requires : goal.write_kept-requires

@@ -1,6 +1,5 @@
 use native.Mathlib.Omega.{arith}
 use Rattle.writer.proofs.Entered.{room_blank}
-use borrow.Author.Rules.{rules}
 use Rattle.writer.proofs.write.write_small.Goals as goal
 
 pub write_kept-requires : goal.write_kept-requires
