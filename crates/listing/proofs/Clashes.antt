@@ -3,20 +3,18 @@ use Prim.Native.Nat.{ℕ, ◌+◌, ◌-◌, ◌*◌, ◌<◌, ◌≤◌}
 use native.Mathlib.Decide.{dec_lt, ℕ_discrete}
 use native.Mathlib.Omega.{arith}
 use mathlib.Core.Path.{◌≡◌, refl, ap, sym, ◌∙◌, subst}
-use mathlib.Core.Bool.{Bool, true, false, ◌&&◌}
+use mathlib.Core.Bool.{true, false, ◌&&◌}
 use mathlib.Core.List.{List}
 use mathlib.Core.Logic.{⊎_elim}
 use lib.ListN.{length}
 use lib.Dec.{eqb, ltb}
 use borrow.Author.Tests.{eq-eqb}
-use borrow.Author.Count.{below_more}
 use Rattle.book.specs.Book.{Book}
 use Rattle.book.specs.Header.{Limits}
 use Rattle.book.specs.declared.header.Counts.{Counts}
 use Rattle.rows.specs.Row.{has, Scan}
 use Rattle.rows.specs.declared.table.Size.{Size}
-use Rattle.rows.specs.Table.{wide, base, leads, Sized, Can, Table}
-use Rattle.rows.specs.Table.{flipped}
+use Rattle.rows.specs.Table.{base, leads, Sized, Can, Table}
 use Rattle.rows.proofs.table.Sizes.{row_room}
 use Rattle.rules.specs.Fact.{type}
 use Rattle.rules.specs.Rule.{Set, some}
@@ -30,9 +28,8 @@ use Rattle.tables.proofs.Sides.{PairLow, disjoint_low}
 use Rattle.rounds.specs.View.{fact as fact_of}
 use Rattle.rounds.proofs.View.{fact_types}
 use Rattle.derivation.specs.declared.row.Row.{Row}
-use Rattle.derivation.specs.Rows.{none, row_at, Claim, fact, clash, claim, says, says_row, before, named, earlier}
+use Rattle.derivation.specs.Rows.{none, row_at, Claim, clash, claim, says, says_row, named, earlier}
 use Rattle.derivation.specs.Accept.{statements, denies, by_clash_lem, follows, claim_at, accepts}
-use Rattle.derivation.specs.Fits.{pair_clash}
 use Rattle.derivation.specs.Tables.{PairsOf}
 use Rattle.derivation.proofs.Clashing.{types_clash, clashing, Clashing as TwoTypes}
 use Rattle.derivation.proofs.Checking.{marks_low}
@@ -40,11 +37,11 @@ use Rattle.steps.specs.Links.{Place, RowPut}
 use Rattle.steps.specs.Written.{known_in, Listed}
 use Rattle.steps.proofs.Known.{known_at}
 use Rattle.steps.proofs.Giving.{place_says, said, named_first, named_second, earlier_all, before_none}
-use Rattle.steps.proofs.Putting.{listed_sized, listed_low, listed_place}
+use Rattle.steps.proofs.Putting.{listed_low}
 use Rattle.steps.proofs.Rows.{before_row, named_same}
 use Rattle.drawing.proofs.Concepts.{type_wide, type_ends}
 use Rattle.listing.specs.declared.clash.Found.{Found}
-use Rattle.listing.specs.Clashes.{typed, Partner, Two, Apart, Pair, Clashing, ClashPut}
+use Rattle.listing.specs.Clashes.{typed, Partner, Two, Pair, Clashing, ClashPut}
 
 -- ---- the searches
 

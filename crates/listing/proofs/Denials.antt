@@ -1,16 +1,15 @@
 -- The row of a clash by denial: a statement that denies what is known is found, and the row that names it and the row of what it denies is accepted.
-use Prim.Native.Nat.{ℕ, zero, suc, ◌+◌, ◌*◌, ◌<◌, ◌≤◌}
+use Prim.Native.Nat.{ℕ, zero, suc, ◌+◌, ◌<◌, ◌≤◌}
 use native.Mathlib.Decide.{ℕ_discrete}
 use native.Mathlib.Omega.{arith}
 use mathlib.Core.Path.{◌≡◌, refl, ap, sym, ◌∙◌, subst}
 use mathlib.Core.Bool.{Bool, true, false, not, ◌||◌, or-false}
-use mathlib.Core.List.{List, [], ◌∷◌, ◌++◌}
+use mathlib.Core.List.{List, [], ◌∷◌}
 use mathlib.Core.Logic.{⊎_elim}
 use lib.ListN.{length, get_or}
-use lib.Dec.{eqb, ltb}
+use lib.Dec.{eqb}
 use borrow.Author.Tests.{eq-eqb, lt-ltb}
 use Rattle.book.specs.Book.{Book}
-use Rattle.book.specs.Header.{Limits}
 use Rattle.book.specs.Role.{field_of_lem}
 use Rattle.book.specs.Reader.{turn_at_lem}
 use Rattle.book.specs.Within.{RoleWithin}
@@ -38,7 +37,7 @@ use Rattle.saturation.proofs.Statements.{field_edge}
 use Rattle.rounds.specs.View.{fact as fact_of}
 use Rattle.rounds.proofs.Facts.{edge_leads}
 use Rattle.derivation.specs.declared.row.Row.{Row}
-use Rattle.derivation.specs.Rows.{none, row_at, Claim, clash, claim, says, says_row, before, named, earlier}
+use Rattle.derivation.specs.Rows.{none, Claim, clash, claim, says, says_row, named, earlier}
 use Rattle.derivation.specs.Accept.{statements, member, denies_one, denies, by_clash_lem, follows, claim_at, accepts}
 use Rattle.derivation.specs.Tables.{LabelsOf}
 use Rattle.steps.specs.Links.{Place, RowPut}

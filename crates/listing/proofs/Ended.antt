@@ -12,7 +12,7 @@ use Rattle.book.specs.Book.{Book, Decoded, refused, accepted, decode}
 use Rattle.rules.specs.Rule.{Set}
 use Rattle.rules.specs.Meaning.{conclusions}
 use Rattle.rules.specs.Clash.{clashes}
-use Rattle.rules.specs.Lists.{types, edges, pairs, used, entries2, entries3, filled}
+use Rattle.rules.specs.Lists.{types, edges, used}
 use Rattle.rules.specs.Ends.{End, Refused, Spent, Clash, Finished, on_decoded}
 use Rattle.derivation.specs.Accept.{stands}
 use Rattle.steps.specs.Joinings.{joinings, due_count}

@@ -20,8 +20,8 @@ use Rattle.tables.proofs.Open.{open_limits, open_statements}
 use Rattle.tables.proofs.Blank.{blank}
 use Rattle.verdict.specs.Listing.{types_of}
 use Rattle.verdict.proofs.list.Views.{types_view}
-use Rattle.derivation.specs.Rows.{row_at, Claim, fact, clash}
-use Rattle.derivation.specs.Accept.{claim_at, accepts, statements}
+use Rattle.derivation.specs.Rows.{row_at, clash}
+use Rattle.derivation.specs.Accept.{claim_at, accepts}
 use Rattle.derivation.specs.Entering.{Begin, Entered}
 use Rattle.derivation.specs.Judging.{Stated, Marked}
 use Rattle.derivation.proofs.Preparing.{enough}

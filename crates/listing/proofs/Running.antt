@@ -32,7 +32,7 @@ use Rattle.verdict.proofs.list.Gathers.{gather_few}
 use Rattle.steps.specs.Joinings.{joinings, due_count, due_of}
 use Rattle.steps.proofs.Joinings.{due_counted}
 use Rattle.listing.specs.declared.run.Numbers.{Numbers}
-use Rattle.listing.specs.Running.{numbers_of_lem, rows_for_lem, PairsFit, PlainRun, Ran, RunListed, ended_as}
+use Rattle.listing.specs.Running.{numbers_of_lem, rows_for_lem, PairsFit, Ran, RunListed, ended_as}
 use Rattle.listing.specs.Listing.{row_count, Ended, zeros, ended_from, ended, Listing, Lists, Left, RowsRun}
 use Rattle.listing.proofs.Ended as own
 

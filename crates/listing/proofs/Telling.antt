@@ -6,9 +6,7 @@ use mathlib.Core.Path.{◌≡◌, refl, ap, sym, ◌∙◌, subst}
 use mathlib.Core.Bool.{Bool, true, false, not, ◌||◌}
 use mathlib.Core.List.{List}
 use lib.ListN.{length, get_or}
-use lib.Dec.{eqb}
 use borrow.Author.Tests.{eq-eqb, ne_eqb, eqb-true}
-use Rattle.book.specs.Book.{Book}
 use Rattle.book.specs.declared.header.Counts.{Counts}
 use Rattle.rows.specs.Row.{at, has, Put}
 use Rattle.rows.specs.Table.{base, Table}
@@ -20,7 +18,6 @@ use Rattle.rules.proofs.Least.{count_none}
 use Rattle.rules.proofs.Facts.{pair_of}
 use Rattle.tables.specs.Open.{book_of, size_of, Open}
 use Rattle.tables.specs.Tables.{Blank}
-use Rattle.tables.proofs.Open.{open_limits}
 use Rattle.rounds.proofs.Facts.{open_sized}
 use Rattle.rounds.proofs.Start.{no_facts, blank_kept}
 use Rattle.derivation.specs.Tables.{LabelsOf}

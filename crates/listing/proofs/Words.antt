@@ -1,13 +1,11 @@
 -- The words that are lent to a listing are enough.
-use Prim.Native.Nat.{ℕ, ◌+◌, ◌-◌, ◌*◌, ◌≤◌}
+use Prim.Native.Nat.{◌+◌, ◌-◌, ◌*◌, ◌≤◌}
 use native.Mathlib.Nat.{mul-le-mul_right}
 use native.Mathlib.Omega.{arith}
-use mathlib.Core.List.{List}
 use lib.ListN.{replicate}
 use Rattle.book.specs.Header.{Limits}
 use Rattle.book.specs.declared.header.Counts.{Counts}
 use Rattle.rows.specs.Table.{base}
-use Rattle.tables.specs.Open.{size_of}
 use Rattle.tables.proofs.Blank.{blank}
 use Rattle.saturation.specs.Run.{Small, rows_of}
 use Rattle.derivation.proofs.Preparing.{enough}

@@ -1,10 +1,10 @@
 -- The run, and then its rows (src/run.rt).
-use Rattle.std.specs.Prelude.{ℕ, ◌+◌, ◌*◌, ◌<◌, ◌≤◌, ◌≡◌, Bool, true, false, List, length, replicate}
+use Rattle.std.specs.Prelude.{ℕ, ◌+◌, ◌*◌, ◌<◌, ◌≤◌, ◌≡◌, Bool, List, length, replicate}
 use Rattle.book.specs.Read.{pick}
 use Rattle.book.specs.Book.{Book, accepted, decode}
 use Rattle.rules.specs.Meaning.{conclusions}
 use Rattle.rules.specs.Clash.{clashes}
-use Rattle.rules.specs.Lists.{types, edges, pairs, used, entries2, filled}
+use Rattle.rules.specs.Lists.{types, edges, pairs, entries2, filled}
 use Rattle.rules.specs.Ends.{End, Refused, Clash, Finished, outcome}
 use Rattle.tables.specs.Open.{book_of}
 use Rattle.steps.specs.Joinings.{joinings}

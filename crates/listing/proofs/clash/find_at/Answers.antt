@@ -1,10 +1,5 @@
-use Prim.Native.Nat.{ℕ, ◌+◌, ◌-◌, ◌*◌, ◌≤◌, ◌<◌}
-use mathlib.Core.Path.{◌≡◌, refl, ap, sym, ◌∙◌, subst}
-use mathlib.Core.Bool.{true}
 use native.Mathlib.Omega.{arith}
-use Rattle.rows.specs.Row.{has}
-use Rattle.listing.proofs.Clashes.{type_next, None, none_begin, none_again, pair_found, pair_none}
-use borrow.Author.Rules.{rules}
+use Rattle.listing.proofs.Clashes.{type_next, none_begin, none_again, pair_found, pair_none}
 use Rattle.listing.proofs.clash.find_at.Goals as goal
 
 pub type_field-requires : goal.type_field-requires

@@ -1,10 +1,8 @@
-use Prim.Native.Nat.{ℕ, ◌+◌, ◌-◌, ◌*◌, ◌≤◌, ◌<◌}
-use mathlib.Core.Path.{◌≡◌, refl, ap, sym, ◌∙◌, subst}
+use Prim.Native.Nat.{◌-◌, ◌<◌}
+use mathlib.Core.Path.{◌≡◌}
 use mathlib.Core.Bool.{true}
-use native.Mathlib.Omega.{arith}
 use Rattle.rows.specs.Row.{has}
-use Rattle.listing.proofs.Clashes.{type_next, None, none_begin, none_again, pair_found, pair_none}
-use borrow.Author.Rules.{rules}
+use Rattle.listing.proofs.Clashes.{None}
 use Rattle.listing.proofs.clash.find_at.Given as goal
 
 abbrev pub invariant-loop-a : goal.invariant-loop-a

@@ -1,9 +1,6 @@
-use Prim.Native.Nat.{ℕ, ◌+◌, ◌-◌, ◌*◌, ◌≤◌, ◌<◌}
-use mathlib.Core.Path.{◌≡◌, refl, ap, sym, ◌∙◌, subst}
 use native.Mathlib.Omega.{arith}
 use borrow.Author.Count.{below_more}
 use Rattle.listing.specs.Clashes.{Apart}
-use borrow.Author.Rules.{rules}
 use Rattle.listing.proofs.clash.find_clash.Goals as goal
 
 pub loop-x-init : goal.loop-x-init

@@ -1,9 +1,5 @@
-use Prim.Native.Nat.{ℕ, ◌+◌, ◌-◌, ◌*◌, ◌≤◌, ◌<◌}
-use mathlib.Core.Path.{◌≡◌, refl, ap, sym, ◌∙◌, subst}
-use native.Mathlib.Omega.{arith}
-use borrow.Author.Count.{below_more}
+use Prim.Native.Nat.{ℕ, ◌-◌, ◌≤◌, ◌<◌}
 use Rattle.listing.specs.Clashes.{Apart}
-use borrow.Author.Rules.{rules}
 use Rattle.listing.proofs.clash.find_clash.Given as goal
 
 abbrev pub invariant-loop-x : goal.invariant-loop-x

@@ -1,10 +1,6 @@
-use Prim.Native.Nat.{ℕ, ◌+◌, ◌-◌, ◌*◌, ◌≤◌, ◌<◌}
-use mathlib.Core.Path.{◌≡◌, refl, ap, sym, ◌∙◌, subst}
-use mathlib.Core.Bool.{true}
+use mathlib.Core.Path.{sym, ◌∙◌}
 use native.Mathlib.Omega.{arith}
-use Rattle.rows.specs.Row.{has}
-use Rattle.listing.proofs.Clashes.{type_room_lem, pairs_next, Alone, alone_begin, alone_again, partner_found, partner_none}
-use borrow.Author.Rules.{rules}
+use Rattle.listing.proofs.Clashes.{type_room_lem, pairs_next, alone_begin, alone_again, partner_found, partner_none}
 use Rattle.listing.proofs.clash.find_other.Goals as goal
 
 pub type_field-requires : goal.type_field-requires

@@ -1,10 +1,8 @@
-use Prim.Native.Nat.{ℕ, ◌+◌, ◌-◌, ◌*◌, ◌≤◌, ◌<◌}
-use mathlib.Core.Path.{◌≡◌, refl, ap, sym, ◌∙◌, subst}
+use Prim.Native.Nat.{◌-◌, ◌<◌}
+use mathlib.Core.Path.{◌≡◌}
 use mathlib.Core.Bool.{true}
-use native.Mathlib.Omega.{arith}
 use Rattle.rows.specs.Row.{has}
-use Rattle.listing.proofs.Clashes.{type_room_lem, pairs_next, Alone, alone_begin, alone_again, partner_found, partner_none}
-use borrow.Author.Rules.{rules}
+use Rattle.listing.proofs.Clashes.{Alone}
 use Rattle.listing.proofs.clash.find_other.Given as goal
 
 abbrev pub invariant-loop-b : goal.invariant-loop-b

@@ -1,5 +1,4 @@
 use Rattle.listing.proofs.Clashes.{denied_there}
-use borrow.Author.Rules.{rules}
 use Rattle.listing.proofs.clash.put_clash.Goals as goal
 
 pub find_clash-found-requires : goal.find_clash-found-requires

@@ -1,7 +1,5 @@
-use native.Mathlib.Omega.{arith}
 use Rattle.steps.proofs.Putting.{listed_sized, listed_limits, listed_room, listed_number, listed_place}
 use Rattle.listing.proofs.Clashes.{type_can, clash_put}
-use borrow.Author.Rules.{rules}
 use Rattle.listing.proofs.clash.put_types.Goals as goal
 
 pub type_field-requires : goal.type_field-requires

@@ -1,6 +1,5 @@
 use mathlib.Core.Path.{refl}
 use Rattle.listing.proofs.Denials.{deny_nothing}
-use borrow.Author.Rules.{rules}
 use Rattle.listing.proofs.deny.deny.Goals as goal
 
 pub deny_pair-requires : goal.deny_pair-requires

@@ -1,7 +1,6 @@
 use mathlib.Core.Path.{sym, ◌∙◌}
 use Rattle.book.proofs.reader.Laws.{turn_within}
 use Rattle.listing.proofs.Denials.{denial_end, denial_next}
-use borrow.Author.Rules.{rules}
 use Rattle.listing.proofs.deny.deny_at.Goals as goal
 
 pub returns-in_default : goal.returns-in_default

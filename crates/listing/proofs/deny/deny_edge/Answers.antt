@@ -2,7 +2,6 @@ use native.Mathlib.Omega.{arith}
 use Rattle.steps.proofs.Putting.{listed_sized, listed_limits, listed_room, listed_number, listed_place}
 use Rattle.denial.proofs.Left.{field_low, led_room}
 use Rattle.listing.proofs.Denials.{passes, edge_can, edge_quiet, edge_there}
-use borrow.Author.Rules.{rules}
 use Rattle.listing.proofs.deny.deny_edge.Goals as goal
 
 pub row_of-requires : goal.row_of-requires

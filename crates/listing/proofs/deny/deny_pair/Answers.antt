@@ -3,7 +3,6 @@ use mathlib.Core.Path.{sym}
 use Rattle.steps.proofs.Putting.{listed_sized, listed_limits}
 use Rattle.drawing.proofs.Sharing.{labels_apart, apart_up}
 use Rattle.listing.proofs.Denials.{passes, pair_told, pair_quiet, pair_up, pair_down}
-use borrow.Author.Rules.{rules}
 use Rattle.listing.proofs.deny.deny_pair.Goals as goal
 
 pub returns-then-labels-i : goal.returns-then-labels-i

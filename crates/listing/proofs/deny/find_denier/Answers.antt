@@ -1,7 +1,5 @@
-use Prim.Native.Nat.{◌-◌, ◌≤◌}
 use native.Mathlib.Omega.{arith}
-use borrow.Author.Rules.{rules}
-use Rattle.listing.proofs.Denials.{Quiet, denier_found, quiet_more, denier_none}
+use Rattle.listing.proofs.Denials.{denier_found, quiet_more, denier_none}
 use Rattle.listing.proofs.deny.find_denier.Goals as goal
 
 pub loop-k-init : goal.loop-k-init

@@ -1,5 +1,4 @@
 use Rattle.listing.proofs.Denials.{denial_put}
-use borrow.Author.Rules.{rules}
 use Rattle.listing.proofs.deny.put_denial.Goals as goal
 
 pub find_denier-found-requires : goal.find_denier-found-requires

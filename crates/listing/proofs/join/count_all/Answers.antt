@@ -1,9 +1,5 @@
-use Prim.Native.Nat.{◌-◌, ◌*◌, ◌≤◌}
 use mathlib.Core.Path.{◌≡◌}
 use native.Mathlib.Omega.{arith}
-use lib.ListN.{length}
-use borrow.Author.Rules.{rules}
-use Rattle.listing.specs.Joins.{joined_among}
 use Rattle.listing.proofs.Counting.{among_none, among_more}
 use Rattle.listing.proofs.join.count_all.Goals as goal
 

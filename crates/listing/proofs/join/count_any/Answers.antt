@@ -4,7 +4,6 @@ use native.Mathlib.Omega.{arith}
 use Rattle.book.proofs.Accepted.{checked_refused}
 use Rattle.tables.proofs.Open.{checked_open, checked_rest}
 use Rattle.derivation.proofs.Preparing.{checked_few}
-use borrow.Author.Rules.{rules}
 use Rattle.listing.proofs.join.count_any.Goals as goal
 
 pub returns-in_default : goal.returns-in_default

@@ -3,11 +3,9 @@ use Rattle.listing.proofs.Counting.{joined_all}
 use Rattle.rules.proofs.Tests.{false_true}
 use Rattle.tables.proofs.Blank.{blank}
 use Rattle.derivation.proofs.Preparing.{enough}
-use Rattle.tables.proofs.Open.{open_limits}
 use native.Mathlib.Omega.{arith}
-use mathlib.Core.Path.{◌≡◌, refl, ap, sym, ◌∙◌, subst}
-use Prim.Native.Nat.{ℕ, ◌+◌, ◌-◌, ◌*◌, ◌≤◌, ◌<◌}
-use borrow.Author.Rules.{rules}
+use mathlib.Core.Path.{sym, ◌∙◌, subst}
+use Prim.Native.Nat.{ℕ, ◌≤◌}
 use Rattle.listing.proofs.join.count_few.Goals as goal
 
 pub read_told-requires : goal.read_told-requires

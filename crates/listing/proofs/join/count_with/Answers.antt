@@ -1,11 +1,9 @@
-use Prim.Native.Nat.{ℕ, ◌+◌, ◌-◌, ◌≤◌}
+use Prim.Native.Nat.{ℕ, ◌+◌}
 use mathlib.Core.Path.{◌≡◌, ap, ◌∙◌}
 use mathlib.Core.Bool.{Bool}
 use native.Mathlib.Omega.{arith}
-use lib.ListN.{length}
-use borrow.Author.Rules.{rules}
 use Rattle.book.specs.Read.{pick}
-use Rattle.listing.specs.Joins.{joined_by, joined_with}
+use Rattle.listing.specs.Joins.{joined_by}
 use Rattle.listing.proofs.Counting.{with_none, with_more, with_few}
 use Rattle.listing.proofs.join.count_with.Goals as goal
 

@@ -1,12 +1,7 @@
-use Prim.Native.Nat.{ℕ, ◌+◌, ◌-◌, ◌≤◌}
-use mathlib.Core.Path.{◌≡◌, ap, ◌∙◌}
-use mathlib.Core.Bool.{Bool}
-use native.Mathlib.Omega.{arith}
+use Prim.Native.Nat.{◌-◌, ◌≤◌}
+use mathlib.Core.Path.{◌≡◌}
 use lib.ListN.{length}
-use borrow.Author.Rules.{rules}
-use Rattle.book.specs.Read.{pick}
-use Rattle.listing.specs.Joins.{joined_by, joined_with}
-use Rattle.listing.proofs.Counting.{with_none, with_more, with_few}
+use Rattle.listing.specs.Joins.{joined_with}
 use Rattle.listing.proofs.join.count_with.Given as goal
 
 abbrev pub invariant-loop-j : goal.invariant-loop-j

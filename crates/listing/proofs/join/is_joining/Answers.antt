@@ -1,5 +1,4 @@
 use Rattle.listing.proofs.Counting.{joined_back, joined_apart, joined_told}
-use borrow.Author.Rules.{rules}
 use Rattle.listing.proofs.join.is_joining.Goals as goal
 
 pub returns-then-i-j : goal.returns-then-i-j

@@ -2,7 +2,6 @@ use Rattle.tables.proofs.Blank.{blank}
 use Rattle.derivation.proofs.Preparing.{enough}
 use Rattle.tables.proofs.Open.{open_limits}
 use native.Mathlib.Omega.{arith}
-use borrow.Author.Rules.{rules}
 use Rattle.listing.proofs.join.read_told.Goals as goal
 
 pub read_leaves-requires : goal.read_leaves-requires

@@ -1,7 +1,5 @@
 use native.Mathlib.Omega.{arith}
-use borrow.Author.Rules.{rules}
 use Rattle.rounds.proofs.Facts.{open_sized}
-use Prim.Native.Nat.{ℕ, ◌-◌, ◌<◌}
 use Rattle.listing.proofs.run.+list_checked.Goals as goal
 
 pub wanted-size-requires : goal.wanted-size-requires

@@ -1,6 +1,4 @@
 use native.Mathlib.Omega.{arith}
-use borrow.Author.Rules.{rules}
-use Prim.Native.Nat.{ℕ, ◌-◌, ◌<◌}
 use Rattle.listing.proofs.run.+run_plain.Goals as goal
 
 pub overflow_add-step : goal.overflow_add-step

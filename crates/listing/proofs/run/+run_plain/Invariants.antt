@@ -1,4 +1,4 @@
-use Rattle.std.proofs.Common.{◌+◌, ◌-◌, ◌*◌}
+use Rattle.std.proofs.Common.{◌-◌}
 use Rattle.listing.proofs.run.+run_plain.Given as goal
 
 abbrev pub decreases-run_plain : goal.decreases-run_plain

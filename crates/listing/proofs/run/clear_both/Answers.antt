@@ -1,5 +1,4 @@
 use native.Mathlib.Nat.{sub-zero}
-use borrow.Author.Rules.{rules}
 use Rattle.listing.proofs.run.clear_both.Goals as goal
 
 pub returns : goal.returns

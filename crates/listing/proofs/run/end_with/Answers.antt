@@ -1,5 +1,4 @@
 use mathlib.Core.Path.{refl}
-use borrow.Author.Rules.{rules}
 use Rattle.listing.proofs.run.end_with.Goals as goal
 
 pub returns-then-numbers : goal.returns-then-numbers

@@ -1,5 +1,4 @@
 use native.Mathlib.Omega.{arith}
-use borrow.Author.Rules.{rules}
 use Rattle.listing.proofs.run.entries_due.Goals as goal
 
 pub returns-then-numbers : goal.returns-then-numbers

@@ -1,7 +1,6 @@
 use Rattle.rules.specs.Meaning.{conclusions}
 use Rattle.tables.specs.Open.{book_of}
 use Rattle.listing.proofs.Running.{no_joinings}
-use borrow.Author.Rules.{rules}
 use Rattle.listing.proofs.run.joinings_due.Goals as goal
 
 pub returns-then-pairs-eq0 : goal.returns-then-pairs-eq0

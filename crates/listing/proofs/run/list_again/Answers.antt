@@ -1,5 +1,4 @@
 use native.Mathlib.Nat.{sub-zero}
-use borrow.Author.Rules.{rules}
 use Rattle.listing.proofs.run.list_again.Goals as goal
 
 pub returns-then-numbers : goal.returns-then-numbers

@@ -1,10 +1,9 @@
-use mathlib.Core.Path.{◌≡◌, refl, ap, sym, ◌∙◌, subst}
+use mathlib.Core.Path.{◌≡◌}
 use native.Mathlib.Omega.{arith}
-use Prim.Native.Nat.{ℕ, ◌+◌, ◌-◌, ◌*◌, ◌≤◌, ◌<◌}
+use Prim.Native.Nat.{ℕ}
 use Rattle.book.proofs.Accepted.{checked_refused}
 use Rattle.tables.proofs.Open.{checked_open, checked_rest}
 use Rattle.derivation.proofs.Preparing.{checked_few}
-use borrow.Author.Rules.{rules}
 use Rattle.listing.proofs.run.list_any.Goals as goal
 
 pub returns-in_default : goal.returns-in_default

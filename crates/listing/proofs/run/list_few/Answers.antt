@@ -1,5 +1,4 @@
 use Rattle.listing.proofs.Words.{few_fresh}
-use borrow.Author.Rules.{rules}
 use Rattle.listing.proofs.run.list_few.Goals as goal
 
 pub list_in-requires : goal.list_in-requires

@@ -3,9 +3,7 @@ use Rattle.listing.proofs.Running.{ran_due, ran_few, ran_room, ran_clash}
 use lib.ListN.{length}
 use Rattle.tables.proofs.Open.{open_limits}
 use native.Mathlib.Omega.{arith}
-use mathlib.Core.Path.{◌≡◌, refl, ap, sym, ◌∙◌, subst}
-use Prim.Native.Nat.{ℕ, ◌+◌, ◌-◌, ◌*◌, ◌≤◌, ◌<◌}
-use borrow.Author.Rules.{rules}
+use mathlib.Core.Path.{ap, ◌∙◌}
 use Rattle.listing.proofs.run.list_in.Goals as goal
 
 pub overflow_add-rows_due : goal.overflow_add-rows_due

@@ -3,7 +3,6 @@ use lib.ListN.{length-replicate}
 use mathlib.Core.Path.{sym}
 use Rattle.listing.proofs.Words.{many_fresh}
 use Rattle.tables.proofs.Open.{open_limits}
-use borrow.Author.Rules.{rules}
 use Rattle.listing.proofs.run.list_many.Goals as goal
 
 pub list_in-requires : goal.list_in-requires

@@ -1,6 +1,5 @@
 use native.Mathlib.Omega.{arith}
 use Rattle.derivation.proofs.Preparing.{enough}
-use borrow.Author.Rules.{rules}
 use Rattle.listing.proofs.run.list_rows.Goals as goal
 
 pub list_any-requires : goal.list_any-requires

@@ -1,7 +1,6 @@
 use mathlib.Core.Path.{refl}
 use native.Mathlib.Omega.{arith}
 use Rattle.listing.proofs.Running.{used_few}
-use borrow.Author.Rules.{rules}
 use Rattle.listing.proofs.run.number.Goals as goal
 
 pub overflow_add-types : goal.overflow_add-types

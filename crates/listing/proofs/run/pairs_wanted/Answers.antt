@@ -1,8 +1,7 @@
 use Rattle.listing.proofs.Running.{fit_none, fit_few}
 use Rattle.book.specs.Header.{as_header}
 use native.Mathlib.Omega.{arith}
-use mathlib.Core.Path.{◌≡◌, refl, ap, sym, ◌∙◌, subst}
-use borrow.Author.Rules.{rules}
+use mathlib.Core.Path.{ap, sym, ◌∙◌}
 use Rattle.listing.proofs.run.pairs_wanted.Goals as goal
 
 pub returns-in_default : goal.returns-in_default

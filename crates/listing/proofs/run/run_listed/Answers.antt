@@ -1,7 +1,6 @@
-use mathlib.Core.Path.{◌≡◌, refl, ap, sym, ◌∙◌, subst}
+use mathlib.Core.Path.{refl}
 use native.Mathlib.Omega.{arith}
 use Rattle.listing.proofs.Running.{ran_few}
-use borrow.Author.Rules.{rules}
 use Rattle.listing.proofs.run.run_listed.Goals as goal
 
 pub entries_due-requires : goal.entries_due-requires

@@ -4,7 +4,6 @@ use mathlib.Core.Path.{sym}
 use Rattle.listing.proofs.Running.{fit_many}
 use Rattle.derivation.proofs.Preparing.{enough}
 use lib.ListN.{replicate}
-use borrow.Author.Rules.{rules}
 use Rattle.listing.proofs.run.run_many.Goals as goal
 
 pub returns : goal.returns

@@ -1,10 +1,7 @@
-use Prim.Native.Nat.{ℕ, ◌+◌, ◌-◌, ◌*◌, ◌≤◌, ◌<◌}
-use mathlib.Core.Path.{◌≡◌, refl, ap, sym, ◌∙◌, subst}
-use lib.ListN.{length}
+use mathlib.Core.Path.{ap, sym, ◌∙◌}
 use Rattle.rules.specs.Ends.{Refused, Spent, Clash, Finished, outcome}
 use Rattle.verdict.specs.Conclude.{end_of}
 use Rattle.listing.proofs.Running.{ran_used, ran_of, plainly, run_early, run_spent, run_rows}
-use borrow.Author.Rules.{rules}
 use Rattle.listing.proofs.run.saturate_rows.Goals as goal
 
 pub number-numbers-requires : goal.number-numbers-requires

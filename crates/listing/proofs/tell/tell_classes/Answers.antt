@@ -1,8 +1,5 @@
-use Prim.Native.Nat.{◌-◌, ◌≤◌}
 use mathlib.Core.Path.{◌≡◌}
 use native.Mathlib.Omega.{arith}
-use borrow.Author.Rules.{rules}
-use Rattle.listing.specs.Told.{ToldRows}
 use Rattle.listing.proofs.Telling.{rows_none, rows_more}
 use Rattle.listing.proofs.tell.tell_classes.Goals as goal
 

@@ -1,5 +1,4 @@
 use Rattle.listing.proofs.Telling.{told_put, told_skip}
-use borrow.Author.Rules.{rules}
 use Rattle.listing.proofs.tell.tell_one.Goals as goal
 
 pub returns-then-labels-i : goal.returns-then-labels-i

@@ -1,8 +1,5 @@
-use Prim.Native.Nat.{◌-◌, ◌≤◌}
 use mathlib.Core.Path.{◌≡◌}
 use native.Mathlib.Omega.{arith}
-use borrow.Author.Rules.{rules}
-use Rattle.listing.specs.Told.{ToldRow}
 use Rattle.listing.proofs.Telling.{row_none, row_more}
 use Rattle.listing.proofs.tell.tell_row.Goals as goal
 

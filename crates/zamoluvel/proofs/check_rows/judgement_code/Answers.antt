@@ -1,4 +1,3 @@
-use borrow.Author.Rules.{rules}
 use mathlib.Core.Path.{refl}
 use Rattle.zamoluvel.proofs.check_rows.judgement_code.Goals as goal
 

@@ -1,4 +1,3 @@
-use borrow.Author.Rules.{rules}
 use mathlib.Core.Path.{ap, ◌∙◌}
 use Rattle.zamoluvel.specs.Rows.{judged_code, judged_rows}
 use Rattle.zamoluvel.proofs.check_rows.zamoluvel_check_rows.Goals as goal

@@ -3,7 +3,6 @@ use native.Mathlib.Omega.{arith}
 use mathlib.Core.Path.{◌≡◌, refl, ap}
 use mathlib.Core.List.{List, [], ◌∷◌}
 use lib.ListN.{length, set}
-use borrow.Author.Rules.{rules}
 use Rattle.zamoluvel.proofs.is.put.Goals as goal
 
 -- an entry that is not there is not made

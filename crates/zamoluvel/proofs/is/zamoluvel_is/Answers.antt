@@ -2,7 +2,6 @@ use mathlib.Core.Path.{ap, ◌∙◌}
 use Rattle.member.specs.Answer.{Answer, Answered}
 use Rattle.zamoluvel.specs.Is.{answer_code_lem, counts_in}
 use Rattle.member.proofs.Judged.{judgement}
-use borrow.Author.Rules.{rules}
 use Rattle.zamoluvel.proofs.is.zamoluvel_is.Goals as goal
 
 pub returns : goal.returns

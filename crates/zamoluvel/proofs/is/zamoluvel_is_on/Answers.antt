@@ -3,7 +3,6 @@ use Rattle.member.specs.Answer.{Answer, Answered}
 use Rattle.zamoluvel.specs.Is.{answer_code_lem, counts_in}
 use Rattle.rules.specs.Spoken.{anyone_on}
 use Rattle.member.proofs.Judged.{judgement_for}
-use borrow.Author.Rules.{rules}
 use Rattle.zamoluvel.proofs.is.zamoluvel_is_on.Goals as goal
 
 pub returns : goal.returns

@@ -1,6 +1,5 @@
 use mathlib.Core.Path.{ap, ◌∙◌}
 use Rattle.zamoluvel.specs.Need.{need_code_lem, figure_in_lem}
-use borrow.Author.Rules.{rules}
 use Rattle.zamoluvel.proofs.need.zamoluvel_figure.Goals as goal
 
 pub returns : goal.returns

@@ -1,4 +1,3 @@
-use borrow.Author.Rules.{rules}
 use mathlib.Core.Path.{refl}
 use Rattle.zamoluvel.proofs.run.code_of.Goals as goal
 

@@ -1,4 +1,3 @@
-use borrow.Author.Rules.{rules}
 use mathlib.Core.Path.{ap, ◌∙◌}
 use Rattle.rules.specs.Spoken.{anyone_on}
 use Rattle.rules.proofs.Spoken.{demand_for}

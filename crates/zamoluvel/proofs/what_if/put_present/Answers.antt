@@ -1,5 +1,4 @@
 use mathlib.Core.Path.{refl, ◌∙◌}
-use borrow.Author.Rules.{rules}
 use Rattle.zamoluvel.proofs.what_if.put_present.Goals as goal
 
 pub returns : goal.returns

@@ -1,13 +1,8 @@
 use mathlib.Core.Path.{ap, ◌∙◌}
-use mathlib.Core.List.{List}
-use Prim.Native.Nat.{ℕ}
-use Rattle.rules.specs.Ends.{End}
-use Rattle.verdict.specs.Conclude.{end_of}
 use Rattle.effect.specs.Effect.{Effect}
 use Rattle.whatif.specs.Answer.{further_of}
 use Rattle.zamoluvel.specs.Run.{code_of}
 use Rattle.zamoluvel.specs.WhatIf.{copy_counts, effect_counts}
-use borrow.Author.Rules.{rules}
 use Rattle.zamoluvel.proofs.what_if.zamoluvel_what_if.Goals as goal
 
 pub returns : goal.returns

@@ -1,7 +1,6 @@
 use mathlib.Core.Path.{ap, ◌∙◌}
 use Rattle.zamoluvel.specs.Write.{answer_code_lem, length_of}
 use Rattle.writer.specs.Written.{Writes}
-use borrow.Author.Rules.{rules}
 use Rattle.zamoluvel.proofs.write.zamoluvel_write.Goals as goal
 
 pub returns : goal.returns
