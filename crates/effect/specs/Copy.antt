@@ -38,7 +38,7 @@ abbrev pub entered : Book → Read Statement → Decoded
 entered B (value y next) = accepted (larger B y)
 entered B (refusal n) = refused n
 
--- WHAT THE COPY IS, as a book (copied-is): 6 where it would be the 4,097th statement, before any fault of the record, as the header comes
+-- WHAT THE COPY IS, as a book (copied_is): 6 where it would be the 4,097th statement, before any fault of the record, as the header comes
 -- first; else the record's refusal; else the book with the statement appended
 unfoldable pub with_record : Book → List ℕ → Decoded
 with_record B x = pick (ltb B.counts.statements 4096) (entered B (one_record B.counts x 0)) (refused 6)

@@ -133,10 +133,10 @@ abbrev pub rows : List Statement → List ℕ
 rows [] = []
 rows (x ∷ xs) = row_of x ∷ rows xs
 
-pub row_at : (d : Statement) (xs : List Statement) (i : ℕ) → i < length xs → get_or (rows xs) i 0 ≡ row_of (get_or xs i d)
-row_at d [] i l = absurd (omega arith)
-row_at d (x ∷ xs) zero l = refl
-row_at d (x ∷ xs) (suc i) l = row_at d xs i (omega arith)
+pub row_at_lem : (d : Statement) (xs : List Statement) (i : ℕ) → i < length xs → get_or (rows xs) i 0 ≡ row_of (get_or xs i d)
+row_at_lem d [] i l = absurd (omega arith)
+row_at_lem d (x ∷ xs) zero l = refl
+row_at_lem d (x ∷ xs) (suc i) l = row_at_lem d xs i (omega arith)
 
 abbrev rows_bytes : List Statement → List (List ℕ)
 rows_bytes [] = []

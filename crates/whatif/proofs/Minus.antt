@@ -43,8 +43,8 @@ row_more a b i j c l m e f =
     rw x (take-suc (drop i a) c 0 (omega (arith, length-drop i a)) ∙ (ap₂ (λ (y : List ℕ) (z : ℕ). y ++ (z ∷ [])) e (get_or-drop i a c 0 ∙ (f ∙ sym (get_or-drop j b c 0))) ∙ sym (take-suc (drop j b) c 0 (omega (arith, length-drop j b)))))
 
 -- rows that are the same have the same entries
-pub row_at : (a b : List ℕ) (i j c w : ℕ) → c < w → take w (drop i a) ≡ take w (drop j b) → get_or a (i + c) 0 ≡ get_or b (j + c) 0
-row_at a b i j c w l e =
+pub row_at_lem : (a b : List ℕ) (i j c w : ℕ) → c < w → take w (drop i a) ≡ take w (drop j b) → get_or a (i + c) 0 ≡ get_or b (j + c) 0
+row_at_lem a b i j c w l e =
     sym (get_or-take w (drop i a) c 0 l ∙ get_or-drop i a c 0) ∙ (ap (λ (z : List ℕ). get_or z c 0) e ∙ (get_or-take w (drop j b) c 0 l ∙ get_or-drop j b c 0))
 
 pub moved_none : (l : List ℕ) (i k : ℕ) → Moved l i k 0 l

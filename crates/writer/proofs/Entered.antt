@@ -39,8 +39,8 @@ module _ (s : List ℕ) (count : ℕ) (child place size : List ℕ) (t : Tree s 
       go (no e) = rw (get_or-set_other place count k at 0 e, get_or-set_other size count k n 0 e) (t.inside k (omega arith))
 
   -- whatever the children are now: they are later ones, the old records are on their ways, and so is the new one
-  tree_of : (child' : List ℕ) → length child' ≡ length child → ((i x : ℕ) → x < 16 → (get_or child' (16 * i + x) 0 ≡ 0 → ⊥) → (i < get_or child' (16 * i + x) 0) × (get_or child' (16 * i + x) 0 < count + 1)) → ((x : ℕ → ℕ) (k d : ℕ) → Way child x k d → Way child' x k d) → ((d : ℕ) × Way child' (digit_of s at n) count d) → Tree s (count + 1) child' place' size'
-  tree_of child' long later' stays last =
+  tree_of_lem : (child' : List ℕ) → length child' ≡ length child → ((i x : ℕ) → x < 16 → (get_or child' (16 * i + x) 0 ≡ 0 → ⊥) → (i < get_or child' (16 * i + x) 0) × (get_or child' (16 * i + x) 0 < count + 1)) → ((x : ℕ → ℕ) (k d : ℕ) → Way child x k d → Way child' x k d) → ((d : ℕ) × Way child' (digit_of s at n) count d) → Tree s (count + 1) child' place' size'
+  tree_of_lem child' long later' stays last =
       record {
         places = simp length-set (omega arith);
         sizes = simp length-set (omega arith);
@@ -59,7 +59,7 @@ module _ (s : List ℕ) (count : ℕ) (child place size : List ℕ) (t : Tree s 
   -- the first is the root
   pub tree_first : count ≡ 0 → Tree s (count + 1) child place' size'
   tree_first z =
-      tree_of child refl (λ i x l some. let a = t.later i x l some in (a.0, omega (arith, a.1))) (λ x k d w. w) (0, subst (λ (k : ℕ). Way child (digit_of s at n) k 0) (sym z) root)
+      tree_of_lem child refl (λ i x l some. let a = t.later i x l some in (a.0, omega (arith, a.1))) (λ x k d w. w) (0, subst (λ (k : ℕ). Way child (digit_of s at n) k 0) (sym z) root)
 
   -- any other goes where it belongs
   module _ (slot : ℕ) (p : Slot s count child at n slot) where
@@ -90,7 +90,7 @@ module _ (s : List ℕ) (count : ℕ) (child place size : List ℕ) (t : Tree s 
         (suc p.depth, subst (λ (k : ℕ). Way child' (digit_of s at n) k (suc p.depth)) q (down (way_set child (digit_of s at n) slot count p.free p.way) (λ z. omega (arith, q))))
 
     pub tree_new : Tree s (count + 1) child' place' size'
-    tree_new = tree_of child' (length-set child slot count) later' (λ x k d w. way_set child x slot count p.free w) (last (omega (arith, p.low)))
+    tree_new = tree_of_lem child' (length-set child slot count) later' (λ x k d w. way_set child x slot count p.free w) (last (omega (arith, p.low)))
 
 -- the ways out
 pub kept_old : (s : List ℕ) (count : ℕ) (place size : List ℕ) (at n : ℕ) → ((k : ℕ) × (k < count) × Match s place size k at n) → Kept s count place size at n count place size

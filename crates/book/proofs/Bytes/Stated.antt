@@ -230,8 +230,8 @@ module _ (v : List ℕ) where
   abbrev Shows : ℕ → ℕ → Type 0
   Shows kind map = let x = axiom_of_lem (record { kind = kind; map = map }) v in ((form_of x).kind ≡ kind) × (places_of 8 0 map v ≡ own x)
 
-  one_of : (kind map a b c : ℕ) → (eqb map a || eqb map b || eqb map c) ≡ true → Shows kind a → Shows kind b → Shows kind c → Shows kind map
-  one_of kind map a b c t x y z = go (eqb map a) (eqb map b) (eqb map c) refl refl refl t
+  one_of_lem : (kind map a b c : ℕ) → (eqb map a || eqb map b || eqb map c) ≡ true → Shows kind a → Shows kind b → Shows kind c → Shows kind map
+  one_of_lem kind map a b c t x y z = go (eqb map a) (eqb map b) (eqb map c) refl refl refl t
     where
       go : (p q r : Bool) → eqb map a ≡ p → eqb map b ≡ q → eqb map c ≡ r → (p || q || r) ≡ true → Shows kind map
       go true q r e f g t = subst (Shows kind) (sym (eqb-true map a e)) x
@@ -240,7 +240,7 @@ module _ (v : List ℕ) where
       go false false false e f g t = absurd (let o : ◌≡◌ {A = ℕ} 0 1 = cc in omega arith)
 
   only : (kind map a : ℕ) → (eqb map a || eqb map a || eqb map a) ≡ true → Shows kind a → Shows kind map
-  only kind map a t x = one_of kind map a a a t x x x
+  only kind map a t x = one_of_lem kind map a a a t x x x
 
   kinds_show : (kind map : ℕ) → (kind ≡ 0 → ⊥) → kind < 17 → statement_allows_lem kind map ≡ true → Shows kind map
   unfolding axiom_of_lem path_of_lem statement_allows_lem
@@ -249,7 +249,7 @@ module _ (v : List ℕ) where
   kinds_show (suc (suc zero)) map d l t = only 2 map 0x30 t (refl, refl)
   kinds_show (suc (suc (suc zero))) map d l t = only 3 map 0x30 t (refl, refl)
   kinds_show (suc (suc (suc (suc zero)))) map d l t = only 4 map 0x03 t (refl, simp field_of_role)
-  kinds_show (suc (suc (suc (suc (suc zero))))) map d l t = one_of 5 map 0x09 0x0B 0x0F t (refl, simp field_of_role) (refl, simp field_of_role) (refl, simp field_of_role)
+  kinds_show (suc (suc (suc (suc (suc zero))))) map d l t = one_of_lem 5 map 0x09 0x0B 0x0F t (refl, simp field_of_role) (refl, simp field_of_role) (refl, simp field_of_role)
   kinds_show (suc (suc (suc (suc (suc (suc zero)))))) map d l t = only 6 map 0x01 t (refl, simp field_of_role)
   kinds_show (suc (suc (suc (suc (suc (suc (suc zero))))))) map d l t = only 7 map 0x01 t (refl, simp field_of_role)
   kinds_show (suc (suc (suc (suc (suc (suc (suc (suc zero)))))))) map d l t = only 8 map 0x01 t (refl, simp field_of_role)

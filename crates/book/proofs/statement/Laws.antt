@@ -62,8 +62,8 @@ module _ (h : Counts) (v : List ℕ) where
   Keeps kind map = ((j : ℕ) → j < 16 → (bit_at map j ≡ 0 → ⊥) → get_or v j 0 < get_or (statement_limits h) j 0) → Within h (axiom_of_lem (start kind map) v)
 
   -- a map that fits one of three places
-  one_of : (kind map a b c : ℕ) → (eqb map a || eqb map b || eqb map c) ≡ true → Keeps kind a → Keeps kind b → Keeps kind c → Keeps kind map
-  one_of kind map a b c t x y z = go (eqb map a) (eqb map b) (eqb map c) refl refl refl t
+  one_of_lem : (kind map a b c : ℕ) → (eqb map a || eqb map b || eqb map c) ≡ true → Keeps kind a → Keeps kind b → Keeps kind c → Keeps kind map
+  one_of_lem kind map a b c t x y z = go (eqb map a) (eqb map b) (eqb map c) refl refl refl t
     where
       go : (p q r : Bool) → eqb map a ≡ p → eqb map b ≡ q → eqb map c ≡ r → (p || q || r) ≡ true → Keeps kind map
       go true q r e f g t = subst (Keeps kind) (sym (eqb-true map a e)) x
@@ -72,7 +72,7 @@ module _ (h : Counts) (v : List ℕ) where
       go false false false e f g t = absurd (let o : ◌≡◌ {A = ℕ} 0 1 = cc in omega arith)
 
   only : (kind map a : ℕ) → (eqb map a || eqb map a || eqb map a) ≡ true → Keeps kind a → Keeps kind map
-  only kind map a t x = one_of kind map a a a t x x x
+  only kind map a t x = one_of_lem kind map a a a t x x x
 
   pub kinds_keep : (kind map : ℕ) → (kind ≡ 0 → ⊥) → kind < 17 → statement_allows_lem kind map ≡ true → Keeps kind map
   unfolding axiom_of_lem path_of_lem statement_allows_lem
@@ -82,7 +82,7 @@ module _ (h : Counts) (v : List ℕ) where
   kinds_keep (suc (suc (suc zero))) map d l t = only 3 map 0x30 t (λ f. (f 4 (lit< tt) (omega arith), f 5 (lit< tt) (omega arith)))
   kinds_keep (suc (suc (suc (suc zero)))) map d l t = only 4 map 0x03 t (λ f. (role_below _ _ (f 0 (lit< tt) (omega arith)), role_below _ _ (f 1 (lit< tt) (omega arith))))
   kinds_keep (suc (suc (suc (suc (suc zero))))) map d l t =
-      one_of 5 map 0x09 0x0B 0x0F t
+      one_of_lem 5 map 0x09 0x0B 0x0F t
       (λ f. (role_below _ _ (f 0 (lit< tt) (omega arith)), role_below _ _ (f 3 (lit< tt) (omega arith))))
       (λ f. ((role_below _ _ (f 0 (lit< tt) (omega arith)), role_below _ _ (f 1 (lit< tt) (omega arith))), role_below _ _ (f 3 (lit< tt) (omega arith))))
       (λ f. ((role_below _ _ (f 0 (lit< tt) (omega arith)), role_below _ _ (f 1 (lit< tt) (omega arith)), role_below _ _ (f 2 (lit< tt) (omega arith))), role_below _ _ (f 3 (lit< tt) (omega arith))))

@@ -51,15 +51,15 @@ module _ (s : List ℕ) (at : ℕ) (r : ReadField) where
       start_high map next e f z h g q a = simp (← e, f, ne_eqb _ _ z, lt-ltb _ _ h, ← g, q, le-ltb _ _ a)
 
       module _ (map next : ℕ) (allowed : Bool) where
-        pub start_of : as_field r ≡ byte s at → r ≡ Next kind then → (kind ≡ 0 → ⊥) → kind < 17 → as_field m ≡ two_bytes_lem s then → m ≡ Next map next → map < 2048 → allowed ≡ statement_allows_lem kind (map % 256) → allowed ≡ true → value (start kind map) next ≡ statement_start_lem s at
+        pub start_of_lem : as_field r ≡ byte s at → r ≡ Next kind then → (kind ≡ 0 → ⊥) → kind < 17 → as_field m ≡ two_bytes_lem s then → m ≡ Next map next → map < 2048 → allowed ≡ statement_allows_lem kind (map % 256) → allowed ≡ true → value (start kind map) next ≡ statement_start_lem s at
         unfolding statement_start_lem
-        start_of e f z h g q l a b = simp (← e, f, ne_eqb _ _ z, lt-ltb _ _ h, ← g, q, lt-ltb _ _ l, ← a, b)
+        start_of_lem e f z h g q l a b = simp (← e, f, ne_eqb _ _ z, lt-ltb _ _ h, ← g, q, lt-ltb _ _ l, ← a, b)
 
         pub start_disallowed : as_field r ≡ byte s at → r ≡ Next kind then → (kind ≡ 0 → ⊥) → kind < 17 → as_field m ≡ two_bytes_lem s then → m ≡ Next map next → map < 2048 → allowed ≡ statement_allows_lem kind (map % 256) → allowed ≡ false → refusal 8 ≡ statement_start_lem s at
         unfolding statement_start_lem
         start_disallowed e f z h g q l a b = simp (← e, f, ne_eqb _ _ z, lt-ltb _ _ h, ← g, q, lt-ltb _ _ l, ← a, b)
 
-pub ruleset start-ways = (start_missing, start_zero, start_unknown, start_mapless, start_high, start_of, start_disallowed)
+pub ruleset start-ways = (start_missing, start_zero, start_unknown, start_mapless, start_high, start_of_lem, start_disallowed)
 
 module _ (map : ℕ) (r s t : Role) where
   pub path_one : map ≡ 0x09 → One r ≡ path_of_lem map r s t
@@ -90,9 +90,9 @@ module _ (x : Start) (v : List ℕ) (next : ℕ) where
   unfolding statement_end_lem
   end_early l s = simp (lt-leb _ _ l)
 
-  pub end_of : (y : Statement) → get_or v 9 0 ≤ get_or v 10 0 → y ≡ statement_of_lem x v → (s : List ℕ) → value y next ≡ statement_end_lem x v s next
+  pub end_of_lem : (y : Statement) → get_or v 9 0 ≤ get_or v 10 0 → y ≡ statement_of_lem x v → (s : List ℕ) → value y next ≡ statement_end_lem x v s next
   unfolding statement_end_lem
-  end_of y l e s = simp (le-leb _ _ l, e)
+  end_of_lem y l e s = simp (le-leb _ _ l, e)
 
 module _ (h : Counts) (x : Start) (s : List ℕ) (at : ℕ) (fs : Fields) where
   pub rest_unread : (n : ℕ) → as_fields fs ≡ fields x.map (statement_limits h) unmarked 9 s at → fs.end ≡ Stopped n → refusal n ≡ statement_rest_lem h x s at
