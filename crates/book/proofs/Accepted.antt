@@ -8,6 +8,8 @@ use lib.ListN.{length, length-append, get_or-append}
 use lib.Seq.{get_or_at}
 use lib.Dec.{leb}
 use borrow.Author.Tests.{leb-true, le-leb}
+use Rattle.std.specs.Prelude.{Result, Ok, Err}
+use Rattle.book.specs.declared.refusal.Refusal.{Refusal}
 use Rattle.book.specs.declared.header.Counts.{Counts}
 use Rattle.book.specs.declared.concept.ConceptExpr.{ConceptExpr}
 use Rattle.book.specs.declared.concept.ConceptExpr.TheVariants.{Top, Bot, Atomic, Nominal, SelfRestriction, Not, And, Or, Some, All, Min, Max}
@@ -15,8 +17,8 @@ use Rattle.book.specs.declared.statement.Axiom.{Axiom}
 use Rattle.book.specs.declared.statement.SubRolePath.TheVariants.{One, Two, Three}
 use Rattle.book.specs.declared.statement.Axiom.TheVariants.{SubClassOf, EquivalentClasses, DisjointClasses, InverseObjectProperties, SubObjectPropertyOf, TransitiveRole, SymmetricRole, FunctionalRole, InverseFunctionalRole, ObjectPropertyDomain, ObjectPropertyRange, SameIndividual, ClassAssertion, ObjectPropertyAssertion, DifferentIndividuals, NegativeObjectPropertyAssertion}
 use Rattle.book.specs.declared.statement.Statement.{Statement}
-use Rattle.book.specs.declared.check.Checked.{Checked}
-use Rattle.book.specs.Read.{Read, value, refusal, several}
+use Rattle.book.specs.Refusal.{number}
+use Rattle.book.specs.Read.{Read, value, refusal, as_read, several}
 use Rattle.book.specs.Field.{number_at_lem}
 use Rattle.book.specs.Header.{counting, header, Limits}
 use Rattle.book.specs.Concept.{concept}
@@ -25,7 +27,7 @@ use Rattle.book.specs.Tree.{Concept, none, more, nth, part_trees, tree_of}
 use Rattle.book.specs.Book.{Book, axioms, concepts, book, Decoded, accepted, refused, decoded, decode, concept_offset, check_of, BookChecked}
 use Rattle.book.specs.Reader.{rest}
 use Rattle.book.specs.Within.{Every, ConceptWithin, Within, StatementWithin}
-use Rattle.book.proofs.Parsing.{came, held, same_value, reached, Forward}
+use Rattle.book.proofs.Parsing.{no_value, came, held, same_value, reached, Forward}
 use Rattle.book.proofs.header.Laws.{header_limits}
 use Rattle.book.proofs.concept.Laws.{concept_within}
 use Rattle.book.proofs.statement.Laws.{statement_within, statement_goes}
@@ -252,17 +254,17 @@ module _ (s : List ℕ) (b : Book) (whole : decode s ≡ accepted b) where
       }
 
 -- what the answer of the check says of the decoded book
-module _ (s : List ℕ) (offsets : List ℕ) (r : Checked) (checked : BookChecked s r offsets) where
-  answered : (d : Decoded) → decode s ≡ d → (h : Counts) (start : ℕ) → check_of s d ≡ Checked.Accepted h start → (b : Book) × (decode s ≡ accepted b) × (b.counts ≡ h) × (start ≡ concept_offset s b.counts.concepts)
-  answered (accepted b) e h start t = (b, e, cc, cc)
-  answered (refused n) e h start t = absurd (let z : ◌≡◌ {A = ℕ} 0 1 = cc in omega arith)
+module _ (s : List ℕ) (offsets : List ℕ) (r : Result (Counts × ℕ) Refusal) (checked : BookChecked s r offsets) where
+  answered : (d : Decoded) → decode s ≡ d → (h : Counts) (start : ℕ) → check_of s d ≡ value h start → (b : Book) × (decode s ≡ accepted b) × (b.counts ≡ h) × (start ≡ concept_offset s b.counts.concepts)
+  answered (accepted b) e h start t = let q = same_value b.counts h (concept_offset s b.counts.concepts) start t in (b, e, q.0, sym q.1)
+  answered (refused n) e h start t = no_value n h start t
 
-  pub checked_accepted : (h : Counts) (start : ℕ) → r ≡ Checked.Accepted h start → (b : Book) × (decode s ≡ accepted b) × (b.counts ≡ h) × (start ≡ concept_offset s b.counts.concepts)
-  checked_accepted h start e = answered (decode s) refl h start (sym checked.answer ∙ e)
+  pub checked_accepted : (h : Counts) (start : ℕ) → r ≡ Ok (h, start) → (b : Book) × (decode s ≡ accepted b) × (b.counts ≡ h) × (start ≡ concept_offset s b.counts.concepts)
+  checked_accepted h start e = answered (decode s) refl h start (sym checked.answer ∙ ap as_read e)
 
-  declined : (n : ℕ) (d : Decoded) → check_of s d ≡ Checked.Refused n → d ≡ refused n
-  declined n (accepted b) t = absurd (let z : ◌≡◌ {A = ℕ} 0 1 = cc in omega arith)
+  declined : (n : ℕ) (d : Decoded) → check_of s d ≡ refusal n → d ≡ refused n
+  declined n (accepted b) t = no_value n b.counts (concept_offset s b.counts.concepts) (sym t)
   declined n (refused m) t = let q : m ≡ n = cc in ap refused q
 
-  pub checked_refused : (n : ℕ) → r ≡ Checked.Refused n → decode s ≡ refused n
-  checked_refused n e = declined n (decode s) (sym checked.answer ∙ e)
+  pub checked_refused : (e : Refusal) → r ≡ Err e → decode s ≡ refused (number e)
+  checked_refused e f = declined (number e) (decode s) (sym checked.answer ∙ ap as_read f)

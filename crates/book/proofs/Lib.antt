@@ -1,5 +1,6 @@
+pub mod Stops
+pub mod Allows
 pub mod Parsing
-pub mod Past
 pub mod Accepted
 pub mod Equal
 pub mod Restated

@@ -1,15 +1,12 @@
 -- The whole book: header, concepts, statements, and nothing behind them.
-use Rattle.std.specs.Prelude.{ℕ, zero, suc, ◌≤◌, ◌<◌, ◌≡◌, List, [], ◌∷◌, ◌++◌, length, get_or, leb}
+use Rattle.std.specs.Prelude.{ℕ, zero, suc, ◌≤◌, ◌<◌, ◌≡◌, List, [], ◌∷◌, ◌++◌, length, get_or, leb, Result, Ok}
 use Rattle.std.proofs.Math.Seq.{slice}
+use Rattle.book.specs.declared.refusal.Refusal.{Refusal}
 use Rattle.book.specs.declared.header.Counts.{Counts}
 use Rattle.book.specs.declared.statement.Axiom.{Axiom}
 use Rattle.book.specs.declared.statement.Statement.{Statement}
-use Rattle.book.specs.declared.field.Passed.{Passed}
-use Rattle.book.specs.declared.field.Passed.TheVariants.{Next as On}
-use Rattle.book.specs.declared.check.Checked.{Checked}
-use Rattle.book.specs.declared.check.Checked.TheVariants.{Accepted, Refused}
-use Rattle.book.specs.Read.{Read, value, refusal, onward, Parser, ◌>>=◌, ◌>>◌, give, unless, several}
-use Rattle.book.specs.Field.{as_passed, passed}
+use Rattle.book.specs.Read.{Read, value, refusal, onward, as_read, as_passed, Parser, ◌>>=◌, ◌>>◌, give, unless, several}
+use Rattle.book.specs.Field.{passed}
 use Rattle.book.specs.Header.{counting, header}
 use Rattle.book.specs.Concept.{concept}
 use Rattle.book.specs.Statement.{statement, bodies}
@@ -92,19 +89,19 @@ concept_bytes s b = slice (concept_offset s 0) (concept_offset s b.counts.concep
 unfoldable pub restated : List ℕ → Book → List Statement → List ℕ
 restated s b xs = header_bytes (counting b.counts (length xs)) ++ (concept_bytes s b ++ statements_bytes xs)
 
--- what the check answers
-abbrev pub check_of : List ℕ → Decoded → Checked
-check_of s (accepted b) = Accepted b.counts (concept_offset s b.counts.concepts)
-check_of s (refused n) = Refused n
+-- what the check answers: the counts and where the statements start, or the refusal
+abbrev pub check_of : List ℕ → Decoded → Read Counts
+check_of s (accepted b) = value b.counts (concept_offset s b.counts.concepts)
+check_of s (refused n) = refusal n
 
 -- going over the concept records notes where each one starts, as far as there is room
-pub record ConceptsPassed (s : List ℕ) (h : Counts) (at : ℕ) (r : Passed) (offsets : List ℕ) : Type 0 where
+pub record ConceptsPassed (s : List ℕ) (h : Counts) (at : ℕ) (r : Result ℕ Refusal) (offsets : List ℕ) : Type 0 where
   pub ends : as_passed r ≡ passed (concepts h h.concepts s at)
-  pub starts : (e : ℕ) → r ≡ On e → (k : ℕ) → k < h.concepts → k < length offsets → get_or offsets k 0 ≡ behind (concepts h k s at)
+  pub starts : (e : ℕ) → r ≡ Ok e → (k : ℕ) → k < h.concepts → k < length offsets → get_or offsets k 0 ≡ behind (concepts h k s at)
 
 -- the check of a book: its answer, and where each concept record of an accepted book starts, as far as there is room
-pub record BookChecked (s : List ℕ) (r : Checked) (offsets : List ℕ) : Type 0 where
-  pub answer : r ≡ check_of s (decode s)
+pub record BookChecked (s : List ℕ) (r : Result (Counts × ℕ) Refusal) (offsets : List ℕ) : Type 0 where
+  pub answer : as_read r ≡ check_of s (decode s)
   pub starts : (b : Book) → decode s ≡ accepted b → (k : ℕ) → k < b.counts.concepts → k < length offsets → get_or offsets k 0 ≡ concept_offset s k
 
 -- a list in which the starts of the first n records are noted, as far as there is room, and all else is as before

@@ -1,19 +1,17 @@
 -- Statement records.
 use Rattle.std.specs.Prelude.{ℕ, ◌*◌, ◌%◌, List, [], ◌∷◌, ◌++◌, not, get_or, replicate, ltb, leb, eqb}
 use Rattle.book.specs.declared.header.Counts.{Counts}
-use Rattle.book.specs.declared.table.Start.{Start}
+use Rattle.book.specs.declared.statement.Head.{Head}
 use Rattle.book.specs.declared.statement.SubRolePath.{SubRolePath}
 use Rattle.book.specs.declared.statement.SubRolePath.TheVariants.{One, Two, Three}
 use Rattle.book.specs.declared.statement.Axiom.{Axiom}
 use Rattle.book.specs.declared.statement.Axiom.TheVariants.{SubClassOf, EquivalentClasses, DisjointClasses, InverseObjectProperties, SubObjectPropertyOf, TransitiveRole, SymmetricRole, FunctionalRole, InverseFunctionalRole, ObjectPropertyDomain, ObjectPropertyRange, SameIndividual, ClassAssertion, ObjectPropertyAssertion, DifferentIndividuals, NegativeObjectPropertyAssertion}
 use Rattle.book.specs.declared.statement.Statement.{Statement}
-use Rattle.book.specs.declared.statement.ReadStatement.{ReadStatement}
-use Rattle.book.specs.declared.statement.ReadStatement.TheVariants.{Next, Refused}
 use Rattle.book.specs.declared.role.Role.{Role}
 use Rattle.book.specs.Role.{role_of_lem}
-use Rattle.book.specs.Read.{pick, Read, value, refusal, Parser, ◌>>=◌, ◌>>◌, give, unless}
+use Rattle.book.specs.Read.{pick, Read, value, onward, Parser, ◌>>=◌, ◌>>◌, give, unless}
 use Rattle.book.specs.Field.{byte, two_bytes_lem, fields}
-use Rattle.book.specs.Table.{statement_allows_lem}
+use Rattle.book.specs.Table.{Start, statement_code, statement_allows_lem}
 
 -- A kind and its map: refusal 7 for an unknown kind, before its map is due, and 8 for a map that is not one of the kind's. Bits 8 to 10 may
 -- stand with every map of every kind: the bits below them are held against the kind's table, and none may stand above.
@@ -26,6 +24,13 @@ statement_start_lem = do
   unless (ltb map 2048) 8
   unless (statement_allows_lem kind (map % 256)) 8
   give (record { kind = kind; map = map })
+
+-- what a reading of a kind and a map gives
+abbrev pub statement_head : Head → Start
+statement_head x = record { kind = statement_code x.kind; map = x.map }
+
+abbrev pub headed : Read Head → Read Start
+headed r = onward r λ x next. value (statement_head x) next
 
 -- bits 0 to 3 are roles, 4 and 5 concepts, 6 and 7 individuals, 8 is a source, 9 and 10 are a first and a last day
 abbrev pub statement_limits : Counts → List ℕ
@@ -115,7 +120,3 @@ statement h = statement_start_lem >>= statement_rest_lem h
 abbrev pub bodies : List Statement → List Axiom
 bodies [] = []
 bodies (x ∷ xs) = x.body ∷ bodies xs
-
-abbrev pub as_statement : ReadStatement → Read Statement
-as_statement (Next x next) = value x next
-as_statement (Refused n) = refusal n

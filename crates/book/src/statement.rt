@@ -1,12 +1,13 @@
 // Statement records: the axioms of a register.
 ghost use Rattle.std.specs.Prelude.{◌≡◌, ℕ, ◌%◌, List};
-ghost use Rattle.book.specs.Statement.{statement_start_lem, path_of_lem, axiom_of_lem, statement_of_lem, statement_end_lem, statement_rest_lem, statement, as_statement};
-ghost use Rattle.book.specs.Concept.{as_start};
+ghost use Rattle.book.specs.Read.{as_read};
+ghost use Rattle.book.specs.Statement.{statement_head, headed, statement_start_lem, path_of_lem, axiom_of_lem, statement_of_lem, statement_end_lem, statement_rest_lem, statement};
 
-use super::field::{Fields, Passed, ReadField, byte_at, fields_at, u16_at};
+use super::field::{byte_at, fields_at, u16_at};
 use super::header::Counts;
+use super::refusal::Refusal;
 use super::role::{Role, role_of};
-use super::table::{ReadStart, Start, statement_allows};
+use super::table::StatementKind;
 
 // The roles that lead from one end of a path to the other.
 #[derive(Clone, Copy)]
@@ -69,43 +70,27 @@ pub struct Statement {
     pub last: u32,
 }
 
+// How a record starts.
 #[derive(Clone, Copy)]
-pub enum ReadStatement {
-    Next(Statement, usize),
-    Refused(u8),
+pub struct Head {
+    pub kind: StatementKind,
+    pub map: u32,
 }
 
-fn statement_start(book: &[u8], at: usize) -> ReadStart
-    ensures { as_start result ≡ statement_start_lem book.now at }
+#[tactic(auto, using(crate::proofs::Stops::stops_stated), unfolding(crate::specs::Statement::statement_start_lem))]
+fn statement_start(book: &[u8], at: usize) -> Result<(Head, usize), Refusal>
+    ensures { headed (as_read result) ≡ statement_start_lem book.now at }
 {
-    let first = byte_at(book, at);
-    match first {
-        ReadField::Refused(n) => ReadStart::Refused(n),
-        ReadField::Next(kind, then) => {
-            if kind == 0 {
-                return ReadStart::Refused(7);
-            }
-            if 17 <= kind {
-                return ReadStart::Refused(7);
-            }
-            let second = u16_at(book, then);
-            match second {
-                ReadField::Refused(n) => ReadStart::Refused(n),
-                ReadField::Next(map, next) => {
-                    if 2048 <= map {
-                        return ReadStart::Refused(8);
-                    }
-                    let allowed = statement_allows(kind, map % 256);
-                    if allowed {
-                        return ReadStart::Next(Start { kind, map }, next);
-                    }
-                    ReadStart::Refused(8)
-                }
-            }
-        }
+    let (byte, then) = byte_at(book, at)?;
+    let kind = StatementKind::try_from(byte)?;
+    let (map, next) = u16_at(book, then)?;
+    if map < 2048 && kind.allows(map % 256) {
+        return Ok((Head { kind, map }, next));
     }
+    Err(Refusal::WrongMap)
 }
 
+#[tactic(auto, unfolding(crate::specs::Statement::path_of_lem))]
 fn path_of(map: u32, r: Role, s: Role, t: Role) -> SubRolePath
     ensures { result ≡ path_of_lem (map % 256) r s t }
 {
@@ -119,43 +104,43 @@ fn path_of(map: u32, r: Role, s: Role, t: Role) -> SubRolePath
     SubRolePath::Three(r, s, t)
 }
 
-fn axiom_of(start: Start, f: Fields) -> Axiom
-    ensures { result ≡ axiom_of_lem start f.values }
+#[tactic(auto, unfolding(crate::specs::Statement::axiom_of_lem))]
+fn axiom_of(head: Head, values: [u32; 16]) -> Axiom
+    ensures { result ≡ axiom_of_lem (statement_head head) values }
 {
-    let r = role_of(f.values[0]);
-    let s = role_of(f.values[1]);
-    let t = role_of(f.values[2]);
-    let u = role_of(f.values[3]);
-    let c = f.values[4];
-    let d = f.values[5];
-    let i = f.values[6];
-    let j = f.values[7];
-    let path = path_of(start.map, r, s, t);
-    let kind = start.kind;
-    match kind {
-        1 => Axiom::SubClassOf { sub: c, sup: d },
-        2 => Axiom::EquivalentClasses(c, d),
-        3 => Axiom::DisjointClasses(c, d),
-        4 => Axiom::InverseObjectProperties(r, s),
-        5 => Axiom::SubObjectPropertyOf { sub: path, sup: u },
-        6 => Axiom::TransitiveRole(r),
-        7 => Axiom::SymmetricRole(r),
-        8 => Axiom::FunctionalRole(r),
-        9 => Axiom::InverseFunctionalRole(r),
-        10 => Axiom::ObjectPropertyDomain { role: r, domain: c },
-        11 => Axiom::ObjectPropertyRange { role: r, range: c },
-        12 => Axiom::SameIndividual(i, j),
-        13 => Axiom::ClassAssertion {
+    let r = role_of(values[0]);
+    let s = role_of(values[1]);
+    let t = role_of(values[2]);
+    let u = role_of(values[3]);
+    let c = values[4];
+    let d = values[5];
+    let i = values[6];
+    let j = values[7];
+    let path = path_of(head.map, r, s, t);
+    match head.kind {
+        StatementKind::SubClassOf => Axiom::SubClassOf { sub: c, sup: d },
+        StatementKind::EquivalentClasses => Axiom::EquivalentClasses(c, d),
+        StatementKind::DisjointClasses => Axiom::DisjointClasses(c, d),
+        StatementKind::InverseObjectProperties => Axiom::InverseObjectProperties(r, s),
+        StatementKind::SubObjectPropertyOf => Axiom::SubObjectPropertyOf { sub: path, sup: u },
+        StatementKind::TransitiveRole => Axiom::TransitiveRole(r),
+        StatementKind::SymmetricRole => Axiom::SymmetricRole(r),
+        StatementKind::FunctionalRole => Axiom::FunctionalRole(r),
+        StatementKind::InverseFunctionalRole => Axiom::InverseFunctionalRole(r),
+        StatementKind::ObjectPropertyDomain => Axiom::ObjectPropertyDomain { role: r, domain: c },
+        StatementKind::ObjectPropertyRange => Axiom::ObjectPropertyRange { role: r, range: c },
+        StatementKind::SameIndividual => Axiom::SameIndividual(i, j),
+        StatementKind::ClassAssertion => Axiom::ClassAssertion {
             class: c,
             individual: i,
         },
-        14 => Axiom::ObjectPropertyAssertion {
+        StatementKind::ObjectPropertyAssertion => Axiom::ObjectPropertyAssertion {
             role: r,
             subject: i,
             object: j,
         },
-        15 => Axiom::DifferentIndividuals(i, j),
-        _ => Axiom::NegativeObjectPropertyAssertion {
+        StatementKind::DifferentIndividuals => Axiom::DifferentIndividuals(i, j),
+        StatementKind::NegativeObjectPropertyAssertion => Axiom::NegativeObjectPropertyAssertion {
             role: r,
             subject: i,
             object: j,
@@ -163,30 +148,28 @@ fn axiom_of(start: Start, f: Fields) -> Axiom
     }
 }
 
-fn statement_of(start: Start, f: Fields) -> Statement
-    ensures { result ≡ statement_of_lem start f.values }
+fn statement_of(head: Head, values: [u32; 16]) -> Statement
+    ensures { result ≡ statement_of_lem (statement_head head) values }
 {
-    let source = f.values[8];
-    let first = f.values[9];
-    let last = f.values[10];
     Statement {
-        body: axiom_of(start, f),
-        source,
-        first,
-        last,
+        body: axiom_of(head, values),
+        source: values[8],
+        first: values[9],
+        last: values[10],
     }
 }
 
 // Once all fields are read.
-fn statement_end(next: usize, start: Start, f: Fields) -> ReadStatement
-    ensures { (s : List ℕ) → as_statement result ≡ statement_end_lem start f.values s next }
+#[tactic(auto, unfolding(crate::specs::Statement::statement_end_lem))]
+fn statement_end(next: usize, head: Head, values: [u32; 16]) -> Result<(Statement, usize), Refusal>
+    ensures { (s : List ℕ) → as_read result ≡ statement_end_lem (statement_head head) values s next }
 {
-    let first = f.values[9];
-    let last = f.values[10];
+    let first = values[9];
+    let last = values[10];
     if last < first {
-        return ReadStatement::Refused(16);
+        return Err(Refusal::EndsBeforeStart);
     }
-    ReadStatement::Next(statement_of(start, f), next)
+    Ok((statement_of(head, values), next))
 }
 
 // A source is never written as 0, nor a first day; a last day never as 65,535. The kind's own fields have no value that stands for an absent one.
@@ -201,8 +184,14 @@ const UNMARKED: [u32; 16] = [
 ];
 
 // From the first field on.
-fn statement_rest(book: &[u8], at: usize, start: Start, counts: Counts) -> ReadStatement
-    ensures { as_statement result ≡ statement_rest_lem counts start book.now at }
+#[tactic(auto, using(crate::proofs::Stops::stops_read), unfolding(crate::specs::Statement::statement_rest_lem))]
+fn statement_rest(
+    book: &[u8],
+    at: usize,
+    head: Head,
+    counts: Counts,
+) -> Result<(Statement, usize), Refusal>
+    ensures { as_read result ≡ statement_rest_lem counts (statement_head head) book.now at }
 {
     let role = 2 * (counts.roles as u32);
     let concepts = counts.concepts as u32;
@@ -225,22 +214,15 @@ fn statement_rest(book: &[u8], at: usize, start: Start, counts: Counts) -> ReadS
         0,
         0,
     ];
-    let absent = UNMARKED;
-    let f = fields_at(book, at, start.map, &limits, &absent, 9);
-    let end = f.end;
-    match end {
-        Passed::Refused(n) => ReadStatement::Refused(n),
-        Passed::Next(next) => statement_end(next, start, f),
-    }
+    let (values, next) = fields_at(book, at, head.map, &limits, &UNMARKED, Refusal::OutOfRange)?;
+    statement_end(next, head, values)
 }
 
 // The statement record at `at`.
-pub fn statement_at(book: &[u8], at: usize, counts: Counts) -> ReadStatement
-    ensures { as_statement result ≡ statement counts book.now at }
+#[tactic(auto, using(crate::proofs::Stops::stops_read), unfolding(crate::specs::Statement::statement))]
+pub fn statement_at(book: &[u8], at: usize, counts: Counts) -> Result<(Statement, usize), Refusal>
+    ensures { as_read result ≡ statement counts book.now at }
 {
-    let start = statement_start(book, at);
-    match start {
-        ReadStart::Refused(n) => ReadStatement::Refused(n),
-        ReadStart::Next(first, then) => statement_rest(book, then, first, counts),
-    }
+    let (head, then) = statement_start(book, at)?;
+    statement_rest(book, then, head, counts)
 }

@@ -2,327 +2,215 @@
 // or the counts and, of a book of few records, each record as its kind and its fields in the order of their bits, a statement with its source and days.
 #![tactic(auto)]
 
-ghost use Rattle.std.specs.Prelude.{◌≤◌, length};
-
-use book::check::{Checked, check_book};
-use book::concept::{ConceptExpr, Part, Parts, ReadConcept, concept_at, part_at};
+use book::check::check_book;
+use book::concept::{ConceptExpr, Parts, concept_at, part_at};
 use book::header::Counts;
-use book::reader::{Turn, next_statement};
+use book::reader::next_statement;
 use book::role::{Role, field_of};
 use book::statement::{Axiom, Statement, SubRolePath};
+use std::io::Print;
 
 const STDIN_FILENO: i32 = 0;
 
-const STDOUT_FILENO: i32 = 1;
-
-#[derive(Clone, Copy)]
-enum Length {
-    Of(usize),
-    End,
+// The kind, the length, each part, and the place behind the last.
+fn list(rt: &HostRuntime, book: &[u8], kind: u32, parts: Parts) -> std::io::Result<()> {
+    print!(rt; " {kind} {}", parts.len)?;
+    for i in 0..parts.len {
+        part(rt, book, parts, i)?;
+    }
+    part(rt, book, parts, parts.len)
 }
 
-fn word(text: &[u8]) {
-    io::write_all(STDOUT_FILENO, text);
-}
-
-fn number(n: u64) {
-    word(b" ");
-    io::print_decimal(STDOUT_FILENO, n);
-}
-
-fn id(n: u32) {
-    number(n as u64);
-}
-
-fn role(r: Role) {
-    number(field_of(r) as u64);
-}
-
-fn part(book: &[u8], parts: Parts, i: u32) {
-    let p = part_at(book, parts, i);
-    match p {
-        Part::Number(n) => id(n),
-        Part::Past => word(b" past"),
+fn part(rt: &HostRuntime, book: &[u8], parts: Parts, i: u32) -> std::io::Result<()> {
+    match part_at(book, parts, i) {
+        Some(n) => print!(rt; " {n}"),
+        None => print!(rt; " past"),
     }
 }
 
-// The length, each part, and the place behind the last.
-fn list(book: &[u8], parts: Parts) {
-    id(parts.len);
-    let mut i: u32 = 0;
-    while i < parts.len {
-        part(book, parts, i);
-        i = i + 1;
-    }
-    part(book, parts, parts.len);
+// A kind, a role and a number.
+fn of_role(rt: &HostRuntime, kind: u32, r: Role, n: u32) -> std::io::Result<()> {
+    print!(rt; " {kind} {} {n}", field_of(r))
 }
 
-fn concept(book: &[u8], x: ConceptExpr) {
+fn concept(rt: &HostRuntime, book: &[u8], x: ConceptExpr) -> std::io::Result<()> {
     match x {
-        ConceptExpr::Top => id(0),
-        ConceptExpr::Bot => id(1),
-        ConceptExpr::Atomic(c) => {
-            id(2);
-            id(c);
-        }
-        ConceptExpr::Nominal(i) => {
-            id(3);
-            id(i);
-        }
-        ConceptExpr::SelfRestriction(r) => {
-            id(4);
-            role(r);
-        }
-        ConceptExpr::Not(c) => {
-            id(5);
-            id(c);
-        }
-        ConceptExpr::And(p) => {
-            id(6);
-            list(book, p);
-        }
-        ConceptExpr::Or(p) => {
-            id(7);
-            list(book, p);
-        }
-        ConceptExpr::Some(r, c) => {
-            id(8);
-            role(r);
-            id(c);
-        }
-        ConceptExpr::All(r, c) => {
-            id(9);
-            role(r);
-            id(c);
-        }
-        ConceptExpr::Min(n, r, c) => {
-            id(10);
-            role(r);
-            id(c);
-            id(n);
-        }
-        ConceptExpr::Max(n, r, c) => {
-            id(11);
-            role(r);
-            id(c);
-            id(n);
-        }
+        ConceptExpr::Top => print!(rt; " 0"),
+        ConceptExpr::Bot => print!(rt; " 1"),
+        ConceptExpr::Atomic(c) => print!(rt; " 2 {c}"),
+        ConceptExpr::Nominal(i) => print!(rt; " 3 {i}"),
+        ConceptExpr::SelfRestriction(r) => print!(rt; " 4 {}", field_of(r)),
+        ConceptExpr::Not(c) => print!(rt; " 5 {c}"),
+        ConceptExpr::And(p) => list(rt, book, 6, p),
+        ConceptExpr::Or(p) => list(rt, book, 7, p),
+        ConceptExpr::Some(r, c) => of_role(rt, 8, r, c),
+        ConceptExpr::All(r, c) => of_role(rt, 9, r, c),
+        ConceptExpr::Min(n, r, c) => print!(rt; " 10 {} {c} {n}", field_of(r)),
+        ConceptExpr::Max(n, r, c) => print!(rt; " 11 {} {c} {n}", field_of(r)),
     }
 }
 
-fn path(sub: SubRolePath) {
+fn path(rt: &HostRuntime, sub: SubRolePath) -> std::io::Result<()> {
     match sub {
-        SubRolePath::One(r) => role(r),
-        SubRolePath::Two(r, s) => {
-            role(r);
-            role(s);
-        }
+        SubRolePath::One(r) => print!(rt; " {}", field_of(r)),
+        SubRolePath::Two(r, s) => print!(rt; " {} {}", field_of(r), field_of(s)),
         SubRolePath::Three(r, s, t) => {
-            role(r);
-            role(s);
-            role(t);
+            print!(rt; " {} {} {}", field_of(r), field_of(s), field_of(t))
         }
     }
 }
 
-fn two(kind: u32, a: u32, b: u32) {
-    id(kind);
-    id(a);
-    id(b);
+// A kind and two numbers.
+fn two(rt: &HostRuntime, kind: u32, a: u32, b: u32) -> std::io::Result<()> {
+    print!(rt; " {kind} {a} {b}")
 }
 
-fn of_role(kind: u32, r: Role) {
-    id(kind);
-    role(r);
+// A kind and a role.
+fn one(rt: &HostRuntime, kind: u32, r: Role) -> std::io::Result<()> {
+    print!(rt; " {kind} {}", field_of(r))
 }
 
-fn statement(x: Axiom) {
+// A kind, a role and two numbers.
+fn edge(rt: &HostRuntime, kind: u32, r: Role, a: u32, b: u32) -> std::io::Result<()> {
+    print!(rt; " {kind} {} {a} {b}", field_of(r))
+}
+
+fn statement(rt: &HostRuntime, x: Axiom) -> std::io::Result<()> {
     match x {
-        Axiom::SubClassOf { sub, sup } => two(1, sub, sup),
-        Axiom::EquivalentClasses(c, d) => two(2, c, d),
-        Axiom::DisjointClasses(c, d) => two(3, c, d),
-        Axiom::InverseObjectProperties(r, s) => {
-            of_role(4, r);
-            role(s);
-        }
+        Axiom::SubClassOf { sub, sup } => two(rt, 1, sub, sup),
+        Axiom::EquivalentClasses(c, d) => two(rt, 2, c, d),
+        Axiom::DisjointClasses(c, d) => two(rt, 3, c, d),
+        Axiom::InverseObjectProperties(r, s) => { print!(rt; " 4 {} {}", field_of(r), field_of(s)) }
         Axiom::SubObjectPropertyOf { sub, sup } => {
-            id(5);
-            path(sub);
-            role(sup);
+            print!(rt; " 5")?;
+            path(rt, sub)?;
+            print!(rt; " {}", field_of(sup))
         }
-        Axiom::TransitiveRole(r) => of_role(6, r),
-        Axiom::SymmetricRole(r) => of_role(7, r),
-        Axiom::FunctionalRole(r) => of_role(8, r),
-        Axiom::InverseFunctionalRole(r) => of_role(9, r),
-        Axiom::ObjectPropertyDomain { role: r, domain } => {
-            of_role(10, r);
-            id(domain);
-        }
-        Axiom::ObjectPropertyRange { role: r, range } => {
-            of_role(11, r);
-            id(range);
-        }
-        Axiom::SameIndividual(i, j) => two(12, i, j),
-        Axiom::ClassAssertion { class, individual } => two(13, class, individual),
+        Axiom::TransitiveRole(r) => one(rt, 6, r),
+        Axiom::SymmetricRole(r) => one(rt, 7, r),
+        Axiom::FunctionalRole(r) => one(rt, 8, r),
+        Axiom::InverseFunctionalRole(r) => one(rt, 9, r),
+        Axiom::ObjectPropertyDomain { role, domain } => of_role(rt, 10, role, domain),
+        Axiom::ObjectPropertyRange { role, range } => of_role(rt, 11, role, range),
+        Axiom::SameIndividual(i, j) => two(rt, 12, i, j),
+        Axiom::ClassAssertion { class, individual } => two(rt, 13, class, individual),
         Axiom::ObjectPropertyAssertion {
-            role: r,
+            role,
             subject,
             object,
-        } => {
-            of_role(14, r);
-            id(subject);
-            id(object);
-        }
-        Axiom::DifferentIndividuals(i, j) => two(15, i, j),
+        } => edge(rt, 14, role, subject, object),
+        Axiom::DifferentIndividuals(i, j) => two(rt, 15, i, j),
         Axiom::NegativeObjectPropertyAssertion {
-            role: r,
+            role,
             subject,
             object,
-        } => {
-            of_role(16, r);
-            id(subject);
-            id(object);
-        }
+        } => edge(rt, 16, role, subject, object),
     }
 }
 
-fn concept_line(book: &[u8], at: usize, k: u32, counts: Counts) {
-    let read = concept_at(book, at, k, counts);
-    match read {
-        ReadConcept::Next(x, _) => {
-            word(b"c");
-            concept(book, x);
-            word(b"\n");
-        }
-        ReadConcept::Refused(n) => {
-            word(b"c refused");
-            id(n as u32);
-            word(b"\n");
-        }
+fn concept_line(
+    rt: &HostRuntime,
+    book: &[u8],
+    at: usize,
+    k: u32,
+    counts: Counts,
+) -> std::io::Result<()> {
+    print!(rt; "c")?;
+    match concept_at(book, at, k, counts) {
+        Ok((x, _)) => concept(rt, book, x)?,
+        Err(refusal) => print!(rt; " refused {}", refusal.number())?,
     }
-}
-
-fn concepts(book: &[u8], offsets: &[usize], counts: Counts) {
-    let mut k: usize = 0;
-    while k < offsets.len() {
-        if k < counts.concepts as usize {
-            concept_line(book, offsets[k], k as u32, counts);
-        }
-        k = k + 1;
-    }
+    println!(rt)
 }
 
 // A source or a day, where there is one.
-fn mark(name: &[u8], n: u32, absent: u32) {
-    if n == absent {
-        return;
+fn mark(rt: &HostRuntime, name: &str, n: u32, absent: u32) -> std::io::Result<()> {
+    if n != absent {
+        print!(rt; " {name} {n}")?;
     }
-    word(name);
-    id(n);
+    Ok(())
 }
 
-fn statement_line(x: Statement) {
-    let said = x.body;
-    word(b"s");
-    statement(said);
-    mark(b" source", x.source, 0);
-    mark(b" first", x.first, 0);
-    mark(b" last", x.last, 65535);
-    word(b"\n");
+fn statement_line(rt: &HostRuntime, x: Statement) -> std::io::Result<()> {
+    print!(rt; "s")?;
+    statement(rt, x.body)?;
+    mark(rt, "source", x.source, 0)?;
+    mark(rt, "first", x.first, 0)?;
+    mark(rt, "last", x.last, 65535)?;
+    println!(rt)
 }
 
-// All statements from an offset on, a turn of the reader each.
-fn statements(book: &[u8], at: usize, counts: Counts) {
+// All statements from an offset on.
+fn statements(rt: &HostRuntime, book: &[u8], at: usize, counts: Counts) -> std::io::Result<()> {
     let mut here = at;
-    loop {
-        let turn = next_statement(book, here, counts);
-        let Turn::Next(x, next) = turn else {
-            break;
-        };
-        statement_line(x);
+    while let Some((x, next)) = next_statement(book, here, counts) {
+        statement_line(rt, x)?;
         here = next;
     }
+    Ok(())
 }
 
-fn accepted(book: &[u8], offsets: &[usize], counts: Counts, at: usize) {
-    word(b"accepted");
-    id(counts.classes as u32);
-    id(counts.roles as u32);
-    id(counts.individuals as u32);
-    id(counts.concepts as u32);
-    id(counts.statements as u32);
-    word(b"\n");
+fn accepted(
+    rt: &HostRuntime,
+    book: &[u8],
+    offsets: &[usize],
+    counts: Counts,
+    at: usize,
+) -> std::io::Result<()> {
+    print!(rt;
+        "accepted {} {} {}",
+        counts.classes, counts.roles, counts.individuals
+    )?;
+    println!(rt; " {} {}", counts.concepts, counts.statements)?;
     if (counts.concepts as u32) + (counts.statements as u32) <= 64 {
-        concepts(book, offsets, counts);
-        statements(book, at, counts);
-    }
-}
-
-fn show(book: &[u8], offsets: &mut [usize]) {
-    let checked = check_book(book, &mut *offsets);
-    match checked {
-        Checked::Accepted(counts, at) => accepted(book, offsets, counts, at),
-        Checked::Refused(n) => {
-            word(b"refused");
-            id(n as u32);
-            word(b"\n");
+        for (k, start) in offsets.iter().enumerate().take(counts.concepts as usize) {
+            concept_line(rt, book, *start, k as u32, counts)?;
         }
+        statements(rt, book, at, counts)?;
     }
+    Ok(())
 }
 
-fn three(a: u8, b: u8, c: u8) -> usize {
-    (a as usize) + 256 * (b as usize) + 65536 * (c as usize)
+fn show(rt: &HostRuntime, book: &[u8], offsets: &mut [usize]) -> std::io::Result<()> {
+    match check_book(book, offsets) {
+        Ok((counts, at)) => accepted(rt, book, offsets, counts, at),
+        Err(refusal) => println!(rt; "refused {}", refusal.number()),
+    }
 }
 
 // The length in front of the next book: its fourth byte is 0.
-fn next_length() -> Length {
+fn next_length() -> Option<usize> {
     let mut head = [0u8; 4];
-    let got = io::read_full(STDIN_FILENO, &mut head);
-    if got < 4 {
-        return Length::End;
+    if io::read_full(STDIN_FILENO, &mut head) < 4 {
+        return None;
     }
-    Length::Of(three(head[0], head[1], head[2]))
+    Some(u32::from_le_bytes([head[0], head[1], head[2], 0]) as usize)
 }
 
-fn fill(room: &mut [u8], n: usize)
-    requires { n ≤ length room.old }
-{
-    io::read_full(STDIN_FILENO, &mut room[..n]);
-}
-
-fn show_front(room: &[u8], n: usize, offsets: &mut [usize])
-    requires { n ≤ length room.now }
-{
-    show(&room[..n], offsets);
-}
-
-// Whether there was a next book.
-fn run(room: &mut [u8], offsets: &mut [usize]) -> bool {
-    let length = next_length();
-    let Length::Of(n) = length else {
-        return false;
+// Whether there was a next book, and room for it.
+fn run_next(rt: &HostRuntime, room: &mut [u8], offsets: &mut [usize]) -> std::io::Result<bool> {
+    let Some(n) = next_length() else {
+        return Ok(false);
     };
     if room.len() < n {
-        return false;
+        return Ok(false);
     }
-    fill(&mut *room, n);
-    show_front(room, n, offsets);
-    true
+    io::read_full(STDIN_FILENO, &mut room[..n]);
+    show(rt, &room[..n], offsets)?;
+    Ok(true)
 }
 
-fn all(room: &mut [u8], offsets: &mut [usize]) {
-    let mut turns: u32 = 100000;
-    while 0 < turns {
-        let more = run(&mut *room, &mut *offsets);
-        if !more {
-            return;
-        }
-        turns = turns - 1;
-    }
-}
-
-fn main() {
-    let mut room = io::large_buffer();
+fn run_all(rt: &HostRuntime) -> std::io::Result<()> {
+    let mut room = [0u8; 65536];
     let mut offsets = [0usize; 4096];
-    all(&mut room, &mut offsets);
+    for _ in 0..100000u32 {
+        if !run_next(rt, &mut room, &mut offsets)? {
+            break;
+        }
+    }
+    Ok(())
+}
+
+fn main(rt: HostRuntime) {
+    let _ = run_all(&rt);
 }

@@ -42,14 +42,8 @@ module _ (s : List ℕ) (h : Counts) (r : Reader) (S : Set) where
     step : left at ≡ (some (denied_by x.body) S || left next)
     step = ap (λ (xs : List Statement). some (denied_of xs) S) e ∙ denied_more x (heedings r (rest s h next)) S
 
-    pub left_denied : {b : Bool} → b ≡ some (denied_by x.body) S → b ≡ true → true ≡ left at
-    left_denied f g = sym (step ∙ rw (← f, g) refl)
-
     pub left_next : {b : Bool} → b ≡ some (denied_by x.body) S → b ≡ false → left at ≡ left next
     left_next f g = step ∙ rw (← f, g) refl
-
-  pub left_none : (at : ℕ) → heedings r (rest s h at) ≡ [] → false ≡ left at
-  left_none at e = sym (ap (λ (xs : List Statement). some (denied_of xs) S) e)
 
 -- one behind others
 or_turn : (a b c : Bool) → (a || (b || c)) ≡ ((a || b) || c)

@@ -1,4 +1,6 @@
 -- The ways of the checker: a row is accepted exactly where its tests pass.
+use Rattle.std.proofs.Common.{Option, None, Some}
+use Rattle.std.proofs.lemmas.Option.{some_pair_parts}
 use Prim.Native.Nat.{ℕ, zero, suc, ◌+◌, ◌<◌, ◌≤◌}
 use native.Mathlib.Decide.{ℕ_discrete}
 use native.Mathlib.Omega.{arith}
@@ -12,8 +14,6 @@ use Rattle.book.specs.Book.{Book}
 use Rattle.book.specs.Reader.{turn_at_lem}
 use Rattle.book.specs.Within.{Within, Every}
 use Rattle.book.specs.declared.header.Counts.{Counts}
-use Rattle.book.specs.declared.reader.Turn.{Turn}
-use Rattle.book.specs.declared.reader.Turn.TheVariants.{Next, End}
 use Rattle.book.specs.declared.statement.Axiom.{Axiom}
 use Rattle.book.specs.declared.statement.Statement.{Statement}
 use Rattle.book.proofs.reader.Laws.{turn_within}
@@ -54,13 +54,13 @@ module _ {s : List ℕ} {h : Counts} {T L S D : List ℕ} (q : Prepared s h T L 
   statement_past l = rw (member_past (statements (book_of s)) r.statement (omega (arith, q.count))) refl
 
   module _ (below : r.statement < h.statements) where
-    read : (x : Statement) × (next : ℕ) × (turn_at_lem s h (get_or T r.statement 0) ≡ Next x next) × (member (statements (book_of s)) r.statement ≡ x.body ∷ [])
+    read : (x : Statement) × (next : ℕ) × (turn_at_lem s h (get_or T r.statement 0) ≡ Some (x, next)) × (member (statements (book_of s)) r.statement ≡ x.body ∷ [])
     read = q.starts r.statement (omega (arith, q.count))
 
-    pub statement_end_law : {t : Turn} → t ≡ turn_at_lem s h (get_or T r.statement 0) → t ≡ End → false ≡ statement_fits (book_of s) r f p
-    statement_end_law {t} e g = let z : Next read.0 read.1 ≡ End = sym read.2 ∙ (sym e ∙ g) in absurd (let o : ◌≡◌ {A = ℕ} 0 1 = cc in omega arith)
+    pub statement_end_law : {t : Option (Statement × ℕ)} → t ≡ turn_at_lem s h (get_or T r.statement 0) → t ≡ None → false ≡ statement_fits (book_of s) r f p
+    statement_end_law {t} e g = let z : ◌≡◌ {A = Option (Statement × ℕ)} (Some (read.0, read.1)) None = sym read.2 ∙ (sym e ∙ g) in absurd (let o : ◌≡◌ {A = ℕ} 0 1 = cc in omega arith)
 
-    module _ {t : Turn} {z : Statement} {next : ℕ} (e : t ≡ turn_at_lem s h (get_or T r.statement 0)) (g : t ≡ Next z next) where
+    module _ {t : Option (Statement × ℕ)} {z : Statement} {next : ℕ} (e : t ≡ turn_at_lem s h (get_or T r.statement 0)) (g : t ≡ Some (z, next)) where
       abbrev x : Axiom
       x = z.body
 
@@ -69,8 +69,8 @@ module _ {s : List ℕ} {h : Counts} {T L S D : List ℕ} (q : Prepared s h T L 
 
       found : member (statements (book_of s)) r.statement ≡ x ∷ []
       found =
-          let w : Next read.0 read.1 ≡ Next z next = sym read.2 ∙ (sym e ∙ g) in
-          let o : read.0 ≡ z = cc in
+          let w : Some (read.0, read.1) ≡ Some (z, next) = sym read.2 ∙ (sym e ∙ g) in
+          let o : read.0 ≡ z = (some_pair_parts read.0 z read.1 next w).0 in
           read.3 ∙ ap (λ (y : Statement). y.body ∷ []) o
 
       pub statement_one : {n : ℕ} {b : Bool} → n ≡ rule_number_lem x → n ≡ r.rule → b ≡ any_order p.one p.two p.three (fits (book_of s) x f) → b ≡ statement_fits (book_of s) r f p

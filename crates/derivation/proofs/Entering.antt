@@ -1,4 +1,5 @@
 -- The statements of a book, entered one by one.
+use Rattle.std.proofs.Common.{None, Some}
 use Prim.Native.Nat.{ℕ, zero, suc, ◌+◌, ◌*◌, ◌<◌, ◌≤◌}
 use native.Mathlib.Decide.{ℕ_discrete}
 use native.Mathlib.Omega.{arith}
@@ -8,7 +9,6 @@ use lib.ListN.{length, length-append, get_or, set}
 use lib.Seq.{get_or-set_same, get_or-set_other}
 use Rattle.book.specs.Reader.{rest, turn_at_lem}
 use Rattle.book.specs.declared.header.Counts.{Counts}
-use Rattle.book.specs.declared.reader.Turn.TheVariants.{Next, End}
 use Rattle.book.specs.declared.statement.Axiom.{Axiom}
 use Rattle.book.specs.declared.statement.Statement.{Statement}
 use Rattle.book.specs.Statement.{bodies}
@@ -45,10 +45,10 @@ member_before (y ∷ xs) x (suc k) l = member_before xs x k (omega arith)
 pairs_more : (f : Axiom → List Two) (xs : List Axiom) (x : Axiom) {S T : List ℕ} → Pairs S (from xs f) → With S (f x) T → Pairs T (from (xs ++ (x ∷ [])) f)
 pairs_more f xs x {S} {T} p w = subst (λ (l : List Two). Pairs T l) (sym (from_last f xs x)) (w.pairs (from xs f) p)
 
-starts_more : (s : List ℕ) (h : Counts) (xs : List Axiom) (z : Statement) (S : List ℕ) (at next : ℕ) → length xs < length S → Starts s h xs S → turn_at_lem s h at ≡ Next z next → Starts s h (xs ++ (z.body ∷ [])) (set S (length xs) at)
+starts_more : (s : List ℕ) (h : Counts) (xs : List Axiom) (z : Statement) (S : List ℕ) (at next : ℕ) → length xs < length S → Starts s h xs S → turn_at_lem s h at ≡ Some (z, next) → Starts s h (xs ++ (z.body ∷ [])) (set S (length xs) at)
 starts_more s h xs z S at next room w e k l = go (ℕ_discrete k (length xs))
   where
-    go : Dec (k ≡ length xs) → (y : Statement) × (n : ℕ) × (turn_at_lem s h (get_or (set S (length xs) at) k 0) ≡ Next y n) × (member (xs ++ (z.body ∷ [])) k ≡ y.body ∷ [])
+    go : Dec (k ≡ length xs) → (y : Statement) × (n : ℕ) × (turn_at_lem s h (get_or (set S (length xs) at) k 0) ≡ Some (y, n)) × (member (xs ++ (z.body ∷ [])) k ≡ y.body ∷ [])
     go (yes q) = (z, next, ap (turn_at_lem s h) (ap (λ (i : ℕ). get_or (set S (length xs) at) i 0) q ∙ get_or-set_same S (length xs) at 0 room) ∙ e, ap (member (xs ++ (z.body ∷ []))) q ∙ member_last xs z.body)
     go (no q) =
         let m : k < length xs = omega (arith, l, length-append xs (z.body ∷ [])) in
@@ -75,7 +75,7 @@ doing_begin b = record {
 }
 
 -- one statement more
-pub doing_more : {s : List ℕ} {h : Counts} {L S T J P F K T' J' P' F' K' : List ℕ} {k at next : ℕ} (z : Statement) → Leaves h (book_of s) h.concepts L → k < length S → Doing s h S T J P F K k at → turn_at_lem s h at ≡ Next z next
+pub doing_more : {s : List ℕ} {h : Counts} {L S T J P F K T' J' P' F' K' : List ℕ} {k at next : ℕ} (z : Statement) → Leaves h (book_of s) h.concepts L → k < length S → Doing s h S T J P F K k at → turn_at_lem s h at ≡ Some (z, next)
     → Added h L z.body T J P F K T' J' P' F' K' → Doing s h (set S k at) T' J' P' F' K' (k + 1) next
 doing_more {s} {h} {L} {S} {T} {J} {P} {F} {K} {T'} {J'} {P'} {F'} {K'} {k} {at} {next} z leaf room d e a = let x = z.body in record {
   done = d.done ++ (x ∷ []);
@@ -103,7 +103,7 @@ module _ {s : List ℕ} {h : Counts} {S T J P F K : List ℕ} {k at : ℕ} (d : 
   all_done e = record { holding = subst (λ (xs : List Axiom). Holding s h xs S T J P F K) (sym (d.left ∙ (ap (λ (l : List Axiom). d.done ++ l) e ∙ append_none d.done))) d.holding }
 
   -- the reader has come to its end
-  pub doing_end : turn_at_lem s h at ≡ End → Entered s h S T J P F K
+  pub doing_end : turn_at_lem s h at ≡ None → Entered s h S T J P F K
   doing_end e = all_done (ap bodies (rest_end s h at e))
 
   -- or all statements were entered

@@ -1,4 +1,6 @@
 -- What the statements deny, put down one by one, and looked up.
+use Rattle.std.proofs.Common.{Option, None, Some}
+use Rattle.std.proofs.lemmas.Option.{some_pair_parts}
 use Prim.Native.Nat.{ℕ, zero, suc, ◌+◌, ◌/◌, ◌%◌, ◌<◌, ◌≤◌}
 use native.Mathlib.Decide.{ℕ_discrete}
 use native.Mathlib.Numerals.{add-one}
@@ -18,8 +20,6 @@ use Rattle.book.specs.Header.{Limits}
 use Rattle.book.specs.Role.{role_id}
 use Rattle.book.specs.Reader.{turn_at_lem}
 use Rattle.book.specs.declared.header.Counts.{Counts}
-use Rattle.book.specs.declared.reader.Turn.{Turn}
-use Rattle.book.specs.declared.reader.Turn.TheVariants.{Next, End}
 use Rattle.book.specs.declared.role.Role.{Role}
 use Rattle.book.specs.declared.statement.Statement.{Statement}
 use Rattle.book.specs.declared.statement.Axiom.{Axiom}
@@ -166,27 +166,27 @@ known_negative r a b e B = rw e refl
 -- ---- the statement at an offset
 
 module _ (s : List ℕ) (h : Counts) (i : ℕ) where
-  pub put_end_lem : {t : Turn} {D : List ℕ} → t ≡ turn_at_lem s h i → t ≡ End → PutAt s h i D D false
-  put_end_lem {t} e g z next q = let w : Next z next ≡ End = sym q ∙ (sym e ∙ g) in absurd (let o : ◌≡◌ {A = ℕ} 0 1 = cc in omega arith)
+  pub put_end_lem : {t : Option (Statement × ℕ)} {D : List ℕ} → t ≡ turn_at_lem s h i → t ≡ None → PutAt s h i D D false
+  put_end_lem {t} e g z next q = let w : ◌≡◌ {A = Option (Statement × ℕ)} (Some (z, next)) None = sym q ∙ (sym e ∙ g) in absurd (let o : ◌≡◌ {A = ℕ} 0 1 = cc in omega arith)
 
-  pub put_next : {t : Turn} {y : Statement} {m : ℕ} {D E : List ℕ} {x : Bool} → t ≡ turn_at_lem s h i → t ≡ Next y m → WithDenied y.body D E → x ≡ denies_known (book_of s) y.body
+  pub put_next : {t : Option (Statement × ℕ)} {y : Statement} {m : ℕ} {D E : List ℕ} {x : Bool} → t ≡ turn_at_lem s h i → t ≡ Some (y, m) → WithDenied y.body D E → x ≡ denies_known (book_of s) y.body
       → PutAt s h i D E x
   put_next {t} {y} {m} {D} {E} {x} e g w k z next q =
-      let v : Next y m ≡ Next z next = sym g ∙ (e ∙ q) in
-      let o : y ≡ z = cc in
+      let v : Some (y, m) ≡ Some (z, next) = sym g ∙ (e ∙ q) in
+      let o : y ≡ z = (some_pair_parts y z m next v).0 in
       subst (λ (a : Statement). WithDenied a.body D E × (x ≡ denies_known (book_of s) a.body)) o (w, k)
 
   -- the answer about it
   abbrev pub DenialAt : Bool → Type 0
-  DenialAt x = (z : Statement) (next : ℕ) → turn_at_lem s h i ≡ Next z next → x ≡ is_denial_lem z.body
+  DenialAt x = (z : Statement) (next : ℕ) → turn_at_lem s h i ≡ Some (z, next) → x ≡ is_denial_lem z.body
 
-  pub denial_end : {t : Turn} → t ≡ turn_at_lem s h i → t ≡ End → DenialAt false
-  denial_end {t} e g z next q = let w : Next z next ≡ End = sym q ∙ (sym e ∙ g) in absurd (let o : ◌≡◌ {A = ℕ} 0 1 = cc in omega arith)
+  pub denial_end : {t : Option (Statement × ℕ)} → t ≡ turn_at_lem s h i → t ≡ None → DenialAt false
+  denial_end {t} e g z next q = let w : ◌≡◌ {A = Option (Statement × ℕ)} (Some (z, next)) None = sym q ∙ (sym e ∙ g) in absurd (let o : ◌≡◌ {A = ℕ} 0 1 = cc in omega arith)
 
-  pub denial_next : {t : Turn} {y : Statement} {m : ℕ} {x : Bool} → t ≡ turn_at_lem s h i → t ≡ Next y m → x ≡ is_denial_lem y.body → DenialAt x
+  pub denial_next : {t : Option (Statement × ℕ)} {y : Statement} {m : ℕ} {x : Bool} → t ≡ turn_at_lem s h i → t ≡ Some (y, m) → x ≡ is_denial_lem y.body → DenialAt x
   denial_next {t} {y} {m} {x} e g w z next q =
-      let v : Next y m ≡ Next z next = sym g ∙ (e ∙ q) in
-      let o : y ≡ z = cc in
+      let v : Some (y, m) ≡ Some (z, next) = sym g ∙ (e ∙ q) in
+      let o : y ≡ z = (some_pair_parts y z m next v).0 in
       subst (λ (a : Statement). x ≡ is_denial_lem a.body) o w
 
 -- ---- all statements
@@ -204,7 +204,7 @@ first_none s b = record { facts = λ g. b g; known = refl }
 
 module _ (s : List ℕ) (h : Counts) (T : List ℕ) (starts : Starts s h (statements (book_of s)) T) (count : length (statements (book_of s)) ≡ h.statements) where
   module _ (k : ℕ) (below : k < h.statements) where
-    here : (y : Statement) × (next : ℕ) × (turn_at_lem s h (get_or T k 0) ≡ Next y next) × (member (statements (book_of s)) k ≡ y.body ∷ [])
+    here : (y : Statement) × (next : ℕ) × (turn_at_lem s h (get_or T k 0) ≡ Some (y, next)) × (member (statements (book_of s)) k ≡ y.body ∷ [])
     here = starts k (omega (arith, count))
 
     more : (f : Axiom → Bool) → some (take (k + 1) (statements (book_of s))) f ≡ (some (take k (statements (book_of s))) f || f here.0.body)

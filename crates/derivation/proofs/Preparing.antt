@@ -1,7 +1,7 @@
 -- The tables are made ready, and the answer is the defined one.
 use Prim.Native.Nat.{ℕ, ◌+◌, ◌*◌, ◌/◌, ◌%◌, ◌<◌, ◌≤◌}
 use native.Mathlib.Omega.{arith}
-use mathlib.Core.Path.{◌≡◌, refl, ap, ap₂, sym, subst}
+use mathlib.Core.Path.{◌≡◌, refl, ap, ap₂, sym, subst, ◌∙◌}
 use mathlib.Core.Bool.{Bool}
 use mathlib.Core.List.{List}
 use lib.ListN.{length, get_or, replicate, length-replicate}
@@ -9,8 +9,9 @@ use lib.Dec.{eqb}
 use Rattle.book.specs.Book.{Book, BookChecked}
 use Rattle.book.specs.Reader.{rest}
 use Rattle.book.specs.declared.header.Counts.{Counts}
-use Rattle.book.specs.declared.check.Checked.{Checked}
-use Rattle.book.specs.declared.check.Checked.TheVariants.{Accepted, Refused}
+use Rattle.std.specs.Prelude.{Result, Ok, Err, IsErrAnd}
+use Rattle.book.specs.declared.refusal.Refusal.{Refusal}
+use Rattle.book.specs.Refusal.{number}
 use Rattle.book.proofs.Accepted.{accepted_limits, checked_accepted, checked_refused}
 use Rattle.rules.specs.Rule.{any}
 use Rattle.rules.specs.Brought.{concept, Value, from, atomic_of, atomics, values}
@@ -24,13 +25,13 @@ use Rattle.tables.specs.Tables.{Blank, Takers, Labelled, Labels, takers_by}
 use Rattle.tables.proofs.Open.{open_limits, open_statements}
 use Rattle.tables.proofs.Blank.{blank}
 use Rattle.tables.proofs.Sides.{class_low}
-use Rattle.derivation.specs.Accept.{statements, stands, stand_rows, faulty_book, judged}
+use Rattle.derivation.specs.Accept.{statements, stands, Judged, stand_rows, faulty_book, judged}
 use Rattle.derivation.specs.Tables.{ConceptsOf, LabelsOf, PairsOf}
 use Rattle.derivation.specs.Collected.{Slotted, Deep}
 use Rattle.derivation.specs.Pairs.{brings_clash, Paired}
 use Rattle.derivation.specs.Denied.{Denied}
 use Rattle.derivation.specs.Entering.{Begin, Entered}
-use Rattle.derivation.specs.Judging.{Ready, Stated, Marked}
+use Rattle.derivation.specs.Judging.{Ready, Stated, Marked, as_judged}
 use Rattle.derivation.proofs.Leaves.{deep_has}
 use Rattle.derivation.proofs.PairsOf.{pairs_are}
 
@@ -159,11 +160,16 @@ pub judged_of : {s O : List ℕ} (l : List ℕ) {h : Counts} {n : ℕ} → Open 
 unfolding judged
 judged_of l o e = rw o.whole (ap stand_rows e)
 
-pub judged_refused : {s offsets : List ℕ} (l : List ℕ) {r : Checked} {n : ℕ} → BookChecked s r offsets → r ≡ Refused n → faulty_book n ≡ judged s l
+pub judged_refused : {s offsets : List ℕ} (l : List ℕ) {r : Result (Counts × ℕ) Refusal} {e : Refusal} → BookChecked s r offsets → r ≡ Err e → faulty_book (number e) ≡ judged s l
 unfolding judged
-judged_refused {s} {offsets} l {r} {n} k e = rw (checked_refused s offsets r k n e) refl
+judged_refused {s} {offsets} l {r} {e} k is = rw (checked_refused s offsets r k e is) refl
 
-pub checked_few : {s offsets : List ℕ} {r : Checked} {h : Counts} {start : ℕ} → BookChecked s r offsets → r ≡ Accepted h start → h.concepts ≤ 4096
+-- the refusal that came through a `?`
+pub judged_stops : (r : Result ℕ Refusal) (e : Refusal) {x : Judged} → IsErrAnd r (λ y. y ≡ e) → faulty_book (number e) ≡ x → as_judged r ≡ x
+judged_stops (Ok n) e p q = absurd p
+judged_stops (Err y) e p q = ap (λ (z : Refusal). faulty_book (number z)) p ∙ q
+
+pub checked_few : {s offsets : List ℕ} {r : Result (Counts × ℕ) Refusal} {h : Counts} {start : ℕ} → BookChecked s r offsets → r ≡ Ok (h, start) → h.concepts ≤ 4096
 checked_few {s} {offsets} {r} {h} {start} k e =
     let d = checked_accepted s offsets r k h start e in
     subst (λ (g : Counts). g.concepts ≤ 4096) d.2 (accepted_limits s d.0 d.1).concepts_top

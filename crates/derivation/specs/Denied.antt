@@ -1,9 +1,8 @@
 -- What the statements of a book deny, by number (src/denied.rt).
-use Rattle.std.specs.Prelude.{ℕ, ◌≡◌, Bool, true, false, ◌||◌, List, length, eqb}
+use Rattle.std.specs.Prelude.{ℕ, ◌≡◌, Bool, true, false, ◌||◌, List, length, eqb, Some}
 use Rattle.book.specs.Book.{Book}
 use Rattle.book.specs.Reader.{turn_at_lem}
 use Rattle.book.specs.declared.header.Counts.{Counts}
-use Rattle.book.specs.declared.reader.Turn.TheVariants.{Next}
 use Rattle.book.specs.declared.statement.Statement.{Statement}
 use Rattle.book.specs.declared.statement.Axiom.{Axiom}
 use Rattle.book.specs.declared.statement.Axiom.TheVariants.{SubClassOf, EquivalentClasses, DisjointClasses, InverseObjectProperties, SubObjectPropertyOf, TransitiveRole, SymmetricRole, FunctionalRole, InverseFunctionalRole, ObjectPropertyDomain, ObjectPropertyRange, SameIndividual, ClassAssertion, ObjectPropertyAssertion, DifferentIndividuals, NegativeObjectPropertyAssertion}
@@ -78,7 +77,7 @@ pub record WithDenied (x : Axiom) (s t : List ℕ) : Type 0 where
 
 -- the statement at an offset is put down, and y says whether it denies what is known
 abbrev pub PutAt : List ℕ → Counts → ℕ → List ℕ → List ℕ → Bool → Type 0
-PutAt s h i D E y = (z : Statement) (next : ℕ) → turn_at_lem s h i ≡ Next z next → WithDenied z.body D E × (y ≡ denies_known (book_of s) z.body)
+PutAt s h i D E y = (z : Statement) (next : ℕ) → turn_at_lem s h i ≡ Some (z, next) → WithDenied z.body D E × (y ≡ denies_known (book_of s) z.body)
 
 -- the bits of D are the facts that the statements xs deny, and y says whether they deny what is known
 pub record Denied (B : Book) (xs : List Axiom) (D : List ℕ) (y : Bool) : Type 0 where

@@ -1,7 +1,9 @@
 -- The checker's steps: its tables, and what it tests of a row.
-use Rattle.std.specs.Prelude.{ℕ, ◌*◌, ◌≤◌, ◌≡◌, Bool, ◌&&◌, ◌||◌, List, length, eqb, ltb}
+use Rattle.std.specs.Prelude.{ℕ, ◌*◌, ◌≤◌, ◌≡◌, Bool, ◌&&◌, ◌||◌, List, length, eqb, ltb, Result, Ok, Err}
 use Rattle.book.specs.Book.{Book}
 use Rattle.book.specs.declared.header.Counts.{Counts}
+use Rattle.book.specs.declared.refusal.Refusal.{Refusal}
+use Rattle.book.specs.Refusal.{number}
 use Rattle.rules.specs.Rule.{some}
 use Rattle.rules.specs.Brought.{from}
 use Rattle.rules.specs.Clash.{disjoint_by}
@@ -10,8 +12,6 @@ use Rattle.tables.specs.Tables.{Pairs, takers_by, functionals_by}
 use Rattle.tables.specs.Open.{book_of, Open}
 use Rattle.derivation.specs.declared.row.Row.{Row}
 use Rattle.derivation.specs.declared.row.Premises.{Premises}
-use Rattle.derivation.specs.declared.check.Judgement.{Judgement}
-use Rattle.derivation.specs.declared.check.Judgement.TheVariants.{Standing, Refused}
 use Rattle.derivation.specs.Rows.{none}
 use Rattle.derivation.specs.Accept.{statements, rule_number_lem, member, Judged, stand_rows, faulty_book}
 use Rattle.derivation.specs.Fits.{fits, share_fits_lem, deny_fits, clash_fits_lem, one_of_three, any_order, any_two}
@@ -60,9 +60,9 @@ pub record Marked (s : List ℕ) (h : Counts) (T J P F : List ℕ) : Type 0 wher
   pub functional : Pairs F (from (statements (book_of s)) functionals_by)
 
 -- what an answer says
-abbrev pub as_judged : Judgement → Judged
-as_judged (Standing n) = stand_rows n
-as_judged (Refused n) = faulty_book n
+abbrev pub as_judged : Result ℕ Refusal → Judged
+as_judged (Ok n) = stand_rows n
+as_judged (Err e) = faulty_book (number e)
 
 -- rules 1 to 5 and 7, rule 6 and rule 8, from the facts p
 unfoldable pub statement_fits : Book → Row → ℕ → Premises → Bool

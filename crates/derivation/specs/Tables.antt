@@ -1,5 +1,5 @@
 -- What the checker's tables say of a book.
-use Rattle.std.specs.Prelude.{ℕ, ◌+◌, ◌*◌, ◌%◌, ◌<◌, ◌≤◌, ◌≡◌, Bool, ◌&&◌, ◌||◌, List, [], ◌∷◌, length, get_or, eqb, ltb}
+use Rattle.std.specs.Prelude.{ℕ, ◌+◌, ◌*◌, ◌%◌, ◌<◌, ◌≤◌, ◌≡◌, Bool, ◌&&◌, ◌||◌, List, [], ◌∷◌, length, get_or, eqb, ltb, Some}
 use Rattle.book.specs.Header.{Limits}
 use Rattle.book.specs.Read.{pick}
 use Rattle.book.specs.Role.{role_id, field_of_lem}
@@ -8,7 +8,6 @@ use Rattle.book.specs.Book.{Book}
 use Rattle.book.specs.Reader.{turn_at_lem}
 use Rattle.book.specs.Within.{Every}
 use Rattle.book.specs.declared.header.Counts.{Counts}
-use Rattle.book.specs.declared.reader.Turn.TheVariants.{Next}
 use Rattle.book.specs.declared.role.Role.{Role}
 use Rattle.book.specs.declared.statement.Axiom.{Axiom}
 use Rattle.book.specs.declared.statement.Statement.{Statement}
@@ -88,4 +87,4 @@ pub record PairsOf (B : Book) (h : Counts) (P : List ℕ) : Type 0 where
 
 -- entry k of the offsets T is where statement k starts
 abbrev pub Starts : List ℕ → Counts → List Axiom → List ℕ → Type 0
-Starts s h xs T = (k : ℕ) → k < length xs → (x : Statement) × (next : ℕ) × (turn_at_lem s h (get_or T k 0) ≡ Next x next) × (member xs k ≡ x.body ∷ [])
+Starts s h xs T = (k : ℕ) → k < length xs → (x : Statement) × (next : ℕ) × (turn_at_lem s h (get_or T k 0) ≡ Some (x, next)) × (member xs k ≡ x.body ∷ [])

@@ -89,11 +89,8 @@ fn unite_parts(book: &[u8], offsets: &[usize], counts: Counts, deep: &mut [u64],
     ensures { Parted book.now (parts_in book.now counts d) d (parts_in book.now counts d).len deep.old deep.new }
 {
     let parts = parts_of(book, offsets[d], d as u32, counts);
-    let len = parts.len;
-    let mut i = 0;
-    while i < len {
+    for i in 0..parts.len {
         unite_wide(deep, d, part_number(book, parts, i));
-        i += 1;
     }
 }
 

@@ -1,10 +1,9 @@
 // What the statements of a book deny, put down once: a bit for each fact, by its number, and whether something is denied that is known without a fact.
-ghost use Rattle.std.specs.Prelude.{◌≡◌, ℕ, ◌≤◌, ◌<◌, length};
+ghost use Rattle.std.specs.Prelude.{◌≡◌, ℕ, ◌≤◌, ◌<◌, length, Some};
 ghost use Rattle.book.specs.Book.{Book};
 ghost use Rattle.book.specs.Header.{Limits};
 ghost use Rattle.book.specs.Within.{Within};
 ghost use Rattle.book.specs.Reader.{turn_at_lem};
-ghost use Rattle.book.specs.declared.reader.Turn.TheVariants.{Next as turnNext};
 ghost use Rattle.book.specs.declared.statement.Statement.{Statement};
 ghost use Rattle.rows.specs.Row.{at as bit_at, Put};
 ghost use Rattle.rules.specs.Rule.{some};
@@ -19,7 +18,7 @@ use super::fact::{edge_of, pair_of};
 use super::order::told_same;
 use super::row::Premises;
 use book::header::Counts;
-use book::reader::{Turn, next_statement};
+use book::reader::next_statement;
 use book::statement::Axiom;
 use rows::row::insert;
 
@@ -40,10 +39,10 @@ fn is_denial(statement: Axiom) -> bool
 
 fn denies_at(book: &[u8], at: usize, counts: Counts) -> bool
     requires { Limits counts }
-    ensures { (z : Statement) (next : ℕ) → turn_at_lem book.now counts at ≡ turnNext z next → result ≡ is_denial_lem z.body }
+    ensures { (z : Statement) (next : ℕ) → turn_at_lem book.now counts at ≡ Some (z, next) → result ≡ is_denial_lem z.body }
 {
     let turn = next_statement(book, at, counts);
-    let Turn::Next(statement, _) = turn else {
+    let Some((statement, _)) = turn else {
         return false;
     };
     let said = statement.body;
@@ -58,12 +57,10 @@ pub fn any_denial(book: &[u8], starts: &[usize], counts: Counts) -> bool
     ensures { result ≡ some (statements (book_of book.now)) is_denial_lem }
 {
     let n = counts.statements as usize;
-    let mut k: usize = 0;
-    while k < n {
+    for k in 0..n {
         if denies_at(book, starts[k], counts) {
             return true;
         }
-        k = k + 1;
     }
     false
 }
@@ -109,7 +106,7 @@ fn put_at(book: &[u8], at: usize, counts: Counts, labels: &[u32], denied: &mut [
     ensures { PutAt book.now counts at denied.old denied.new result }
 {
     let turn = next_statement(book, at, counts);
-    let Turn::Next(statement, _) = turn else {
+    let Some((statement, _)) = turn else {
         return false;
     };
     let said = statement.body;
@@ -133,11 +130,9 @@ pub fn fill_denied(
 {
     let n = counts.statements as usize;
     let mut known = false;
-    let mut k: usize = 0;
-    while k < n {
+    for k in 0..n {
         let here = put_at(book, starts[k], counts, labels, denied);
         known = known | here;
-        k = k + 1;
     }
     known
 }

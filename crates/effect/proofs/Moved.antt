@@ -9,7 +9,7 @@ use lib.Seq.{get_or-append-add}
 use lib.Dec.{leb, ltb, eqb}
 use borrow.Author.Tests.{leb-true, le-leb}
 use Rattle.book.specs.declared.header.Counts.{Counts}
-use Rattle.book.specs.declared.table.Start.{Start}
+use Rattle.book.specs.Table.{Start}
 use Rattle.book.specs.Read.{pick, Read, value, refusal, onward, Parser, give, unless}
 use Rattle.book.specs.Field.{whole, number_at_lem, byte, two_bytes_lem, field, fields_from, fields}
 use Rattle.book.specs.Table.{statement_allows_lem}

@@ -8,3 +8,4 @@ pub mod Record
 pub mod Clause
 pub mod State
 pub mod Cursor
+pub mod Growing

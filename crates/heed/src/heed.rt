@@ -3,9 +3,9 @@ ghost use Rattle.std.specs.Prelude.{◌≡◌, ◌<◌, length};
 ghost use Rattle.rules.specs.Spoken.{readable, readable_by, in_force_lem, in_force_on, heeded};
 ghost use Rattle.heed.specs.Names.{bit_at, who_of, day_of, reader_of, Ready, Step};
 
-use super::names::Names;
+use super::names::{Names, Reader};
 use book::header::Counts;
-use book::reader::{Turn, next_statement};
+use book::reader::next_statement;
 use book::statement::Statement;
 
 fn bit(word: u32, r: u32) -> bool
@@ -16,94 +16,85 @@ fn bit(word: u32, r: u32) -> bool
 }
 
 // The word of source 0 is never looked at.
-fn may_read(statement: Statement, reader: u32, table: &[u32]) -> bool
-    requires { (reader < 32) × (statement.source < length table.now) }
-    ensures { result ≡ readable reader table.now statement }
+#[tactic(auto, unfolding(rules::specs::Spoken::readable))]
+fn may_read(statement: Statement, reader: Reader) -> bool
+    requires { (reader.number < 32) × (statement.source < length reader.table.now) }
+    ensures { result ≡ readable reader.entry.number reader.entry.table.now statement }
 {
     let source = statement.source as usize;
-    if source == 0 {
-        return true;
-    }
-    bit(table[source], reader)
+    source == 0 || bit(reader.table[source], reader.number)
 }
 
 // Whether the reader that a run names may read a statement.
-fn read(statement: Statement, names: Names, table: &[u32]) -> bool
-    requires { Ready names table.now × (statement.source < 1024) }
-    ensures { result ≡ readable_by (who_of names table.now) statement }
+fn read(statement: Statement, names: Names) -> bool
+    requires { Ready names × (statement.source < 1024) }
+    ensures { result ≡ readable_by (who_of names.entry) statement }
 {
-    if names.named {
-        return may_read(statement, names.reader, table);
+    match names.reader {
+        Some(reader) => may_read(statement, reader),
+        None => true,
     }
-    true
 }
 
 // Both days belong to the period.
+#[tactic(auto, unfolding(rules::specs::Spoken::in_force_lem))]
 fn in_force(statement: Statement, day: u16) -> bool
     ensures { result ≡ in_force_lem day statement }
 {
     let here = day as u32;
-    if here < statement.first {
-        return false;
-    }
-    here <= statement.last
+    statement.first <= here && here <= statement.last
 }
 
 // Whether a statement is in force on the day that a run names.
 fn current(statement: Statement, names: Names) -> bool
-    ensures { result ≡ in_force_on (day_of names) statement }
+    ensures { result ≡ in_force_on (day_of names.entry) statement }
 {
-    if names.dated {
-        return in_force(statement, names.day);
+    match names.day {
+        Some(day) => in_force(statement, day),
+        None => true,
     }
-    true
 }
 
 // Whether a statement counts.
-pub fn heeds(statement: Statement, names: Names, table: &[u32]) -> bool
-    requires { Ready names table.now × (statement.source < 1024) }
-    ensures { result ≡ heeded (reader_of names table.now) statement }
+#[tactic(auto, unfolding(rules::specs::Spoken::heeded))]
+pub fn heeds(statement: Statement, names: Names) -> bool
+    requires { Ready names × (statement.source < 1024) }
+    ensures { result ≡ heeded (reader_of names.entry) statement }
 {
-    let valid = current(statement, names);
-    if valid {
-        return read(statement, names, table);
-    }
-    false
+    current(statement, names) && read(statement, names)
 }
 
 // The next statement that counts, from an offset on, each put to the test.
-fn next_named(book: &[u8], at: usize, counts: Counts, names: Names, table: &[u32]) -> Turn
-    requires { Ready names table.now }
-    ensures { Step book.now counts (reader_of names table.now) at result }
+fn next_named(book: &[u8], at: usize, counts: Counts, names: Names) -> Option<(Statement, usize)>
+    requires { Ready names }
+    ensures { Step book.now counts (reader_of names.entry) at result }
 {
     let mut here = at;
     while here < book.len() {
-        let turn = next_statement(book, here, counts);
-        let Turn::Next(statement, next) = turn else {
-            return Turn::End;
-        };
-        let counted = heeds(statement, names, table);
-        if counted {
-            return Turn::Next(statement, next);
+        let (statement, next) = next_statement(book, here, counts)?;
+        if heeds(statement, names) {
+            return Some((statement, next));
         }
         here = next;
     }
-    Turn::End
+    None
 }
 
 // The next statement that counts, from an offset on. Where no reader is named and no day, every one does.
-pub fn next_heeded(book: &[u8], at: usize, counts: Counts, names: Names, table: &[u32]) -> Turn
-    requires { Ready names table.now }
-    ensures { Step book.now counts (reader_of names table.now) at result }
+pub fn next_heeded(
+    book: &[u8],
+    at: usize,
+    counts: Counts,
+    names: Names,
+) -> Option<(Statement, usize)>
+    requires { Ready names }
+    ensures { Step book.now counts (reader_of names.entry) at result }
 {
-    if names.named {
-        return next_named(book, at, counts, names, table);
-    }
-    if names.dated {
-        return next_named(book, at, counts, names, table);
+    if names.reader.is_some() || names.day.is_some() {
+        return next_named(book, at, counts, names);
     }
     if at < book.len() {
         return next_statement(book, at, counts);
     }
-    Turn::End
+    None
 }

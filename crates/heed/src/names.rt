@@ -1,27 +1,32 @@
-// What a run names: a reader, if `named`, for whom a table is lent, and a day, if `dated`.
+// What a run names: a reader with the table of what each may read, a day, both or neither.
 ghost use Rattle.heed.specs.Names.{Fault};
 
+use book::refusal::Refusal;
+
+// Bit `number` of a source's word in the table says that this reader may read the source.
 #[derive(Clone, Copy)]
-pub struct Names {
-    pub named: bool,
-    pub reader: u32,
-    pub dated: bool,
-    pub day: u16,
+pub struct Reader<'a> {
+    pub number: u32,
+    pub table: &'a [u32],
 }
 
-// The refusal of a reader or of his table, 14 or 15; 0 where there is none. A day has none.
-pub fn fault(names: Names, table: &[u32]) -> u8
-    ensures { Fault names table.now result }
+#[derive(Clone, Copy)]
+pub struct Names<'a> {
+    pub reader: Option<Reader<'a>>,
+    pub day: Option<u16>,
+}
+
+// The refusal of a reader or of his table. A day has none.
+pub fn fault(names: Names) -> Result<(), Refusal>
+    ensures { Fault names.entry result }
 {
-    let named = names.named;
-    if !named {
-        return 0;
+    if let Some(reader) = names.reader {
+        if reader.number > 31 {
+            return Err(Refusal::UnknownReader);
+        }
+        if reader.table.len() != 1024 {
+            return Err(Refusal::WrongTable);
+        }
     }
-    if names.reader > 31 {
-        return 14;
-    }
-    if table.len() != 1024 {
-        return 15;
-    }
-    0
+    Ok(())
 }

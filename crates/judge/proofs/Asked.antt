@@ -6,8 +6,10 @@ use lib.ListN.{length}
 use Rattle.book.specs.Book.{Book, refused, accepted, decode, BookChecked}
 use Rattle.book.specs.declared.header.Counts.{Counts}
 use Rattle.book.specs.declared.statement.Statement.{Statement}
-use Rattle.book.specs.declared.check.Checked.{Checked}
-use Rattle.book.specs.declared.check.Checked.TheVariants.{Refused}
+use Rattle.book.specs.declared.refusal.Refusal.{Refusal}
+use Rattle.book.specs.declared.refusal.Refusal.TheVariants.{NoSuchQuestion}
+use Rattle.book.specs.Refusal.{number}
+use Rattle.std.specs.Prelude.{Result, Ok, Err, IsErrAnd}
 use Rattle.book.proofs.Accepted.{checked_refused}
 use Rattle.rules.specs.Fact.{pair}
 use Rattle.rules.specs.Rule.{Set}
@@ -30,44 +32,51 @@ use Rattle.member.specs.Answer.{Answered, answered, questioned, member, member_f
 use Rattle.member.specs.Judgement.{Judgement}
 use Rattle.member.proofs.Judged.{member_refused, member_run, no_individual, no_concept, judgement, judgement_for}
 use Rattle.judge.specs.Answered.{gave}
+use Rattle.judge.specs.Answered.{answered as answering}
+use Rattle.judge.specs.declared.answer.Answer.{Answer}
 use Rattle.judge.specs.declared.answer.Answer.TheVariants.{Ended}
 
 module _ {budget : ℕ} {ts es : List ℕ} (a : Admitted budget ts es) (ps : List ℕ) (i c : ℕ) where
   -- what is refused leaves the lists as they were
-  pub refused_gave : (r : Reader) (s : List ℕ) (n : ℕ) → questioned i c (decode_for r s) ≡ refused n → gave (Ended (refusal n)) ts es ps ≡ member_for r s budget ts es ps i c
-  refused_gave r s n e = sym (member_refused budget ts es ps i c (decode_for r s) n (refused_book ts es ps (questioned i c (decode_for r s)) budget a.low a.edges a.types n e))
+  pub refused_gave : (r : Reader) (s : List ℕ) (k : Refusal) → questioned i c (decode_for r s) ≡ refused (number k) → gave (Ended (refusal k)) ts es ps ≡ member_for r s budget ts es ps i c
+  refused_gave r s k e = sym (member_refused budget ts es ps i c (decode_for r s) (number k) (refused_book ts es ps (questioned i c (decode_for r s)) budget a.low a.edges a.types (number k) e))
 
-  module _ (n : Names) (table : List ℕ) (ready : Ready n table) where
+  module _ (n : Names) (ready : Ready n) where
     abbrev r : Reader
-    r = reader_of n table
+    r = reader_of n
 
-    pub refused_read : {s offsets : List ℕ} {x : Checked} {k : ℕ} → BookChecked s x offsets → x ≡ Refused k → gave (Ended (refusal k)) ts es ps ≡ member_for (reader_of n table) s budget ts es ps i c
-    refused_read {s} {offsets} {x} {k} b e = refused_gave r s k (ap (questioned i c) (ready_decoded n table ready s ∙ ap (spoken_of r) (checked_refused s offsets x b k e)))
+    pub refused_read : {s offsets : List ℕ} {x : Result (Counts × ℕ) Refusal} {k : Refusal} → BookChecked s x offsets → x ≡ Err k → gave (Ended (refusal k)) ts es ps ≡ member_for (reader_of n) s budget ts es ps i c
+    refused_read {s} {offsets} {x} {k} b e = refused_gave r s k (ap (questioned i c) (ready_decoded n ready s ∙ ap (spoken_of r) (checked_refused s offsets x b k e)))
 
     module _ {s : List ℕ} {h : Counts} {offsets : List ℕ} (o : Open s h offsets) where
       ys : List Statement
-      ys = heard (reader_of n table) s
+      ys = heard (reader_of n) s
 
       decoded : decode_for r s ≡ accepted (spoken r (book_of s))
-      decoded = ready_decoded n table ready s ∙ ap (spoken_of r) o.whole
+      decoded = ready_decoded n ready s ∙ ap (spoken_of r) o.whole
 
       -- 17: no such individual, no such concept
-      pub no_such_individual : h.individuals ≤ i → gave (Ended (refusal 17)) ts es ps ≡ member_for (reader_of n table) s budget ts es ps i c
-      no_such_individual l = refused_gave r s 17 (no_individual budget ts es ps i c (decode_for r s) (spoken r (book_of s)) decoded (subst (λ (g : Counts). g.individuals ≤ i) (sym o.counts) l))
+      pub no_such_individual : h.individuals ≤ i → gave (Ended (refusal NoSuchQuestion)) ts es ps ≡ member_for (reader_of n) s budget ts es ps i c
+      no_such_individual l = refused_gave r s NoSuchQuestion (no_individual budget ts es ps i c (decode_for r s) (spoken r (book_of s)) decoded (subst (λ (g : Counts). g.individuals ≤ i) (sym o.counts) l))
 
-      pub no_such_concept : h.concepts ≤ c → gave (Ended (refusal 17)) ts es ps ≡ member_for (reader_of n table) s budget ts es ps i c
-      no_such_concept l = refused_gave r s 17 (no_concept budget ts es ps i c (decode_for r s) (spoken r (book_of s)) decoded (subst (λ (g : Counts). g.concepts ≤ c) (sym o.counts) l))
+      pub no_such_concept : h.concepts ≤ c → gave (Ended (refusal NoSuchQuestion)) ts es ps ≡ member_for (reader_of n) s budget ts es ps i c
+      no_such_concept l = refused_gave r s NoSuchQuestion (no_concept budget ts es ps i c (decode_for r s) (spoken r (book_of s)) decoded (subst (λ (g : Counts). g.concepts ≤ c) (sym o.counts) l))
 
       -- what the run of the statements that count shows is shown of the book spoken of: it differs in the count of its statements alone
       shown_spoken : shown_in (spoken r (book_of s)) i c ≡ shown_in (heard_book r s) i c
       unfolding shown_in in_one_class
       shown_spoken = ap (λ (X : Set). shown (book_of s).counts.individuals X (λ j b. X (pair j b)) (concept (book_of s) c) i) (conclusions_same (heard_book r s) (length (heard r s)) (heard r s) (λ P k. k) (λ P k. k) (heard_inside r o) (spoken_inside r s (book_of s) o.whole))
 
-      pub own_gave : i < h.individuals → c < h.concepts → answered (shown_in (heard_book (reader_of n table) s) i c) (outcome_on (heard_book (reader_of n table) s) budget ts es ps) ≡ member_for (reader_of n table) s budget ts es ps i c
+      pub own_gave : i < h.individuals → c < h.concepts → answered (shown_in (heard_book (reader_of n) s) i c) (outcome_on (heard_book (reader_of n) s) budget ts es ps) ≡ member_for (reader_of n) s budget ts es ps i c
       own_gave k l =
           sym (member_run budget ts es ps i c (decode_for r s) (spoken r (book_of s)) decoded (subst (λ (g : Counts). i < g.individuals) (sym o.counts) k) (subst (λ (g : Counts). c < g.concepts) (sym o.counts) l)
           ∙ (ap (λ (b : _). answered b (outcome_of (decode_for r s) budget ts es ps)) shown_spoken
-          ∙ ap (answered (shown_in (heard_book r s) i c)) (sym (heard_outcome n table ready ps a o))))
+          ∙ ap (answered (shown_in (heard_book r s) i c)) (sym (heard_outcome n ready ps a o))))
+
+-- what is given of a refusal at the exit of a `?`
+pub stops_gave : (r : Result Answer Refusal) (k : Refusal) {ts es ps : List ℕ} {o : Answered} → IsErrAnd r (λ y. y ≡ k) → gave (Ended (refusal k)) ts es ps ≡ o → gave (answering r) ts es ps ≡ o
+stops_gave (Ok a) k p q = absurd p
+stops_gave (Err y) k {ts} {es} {ps} p q = ap (λ (z : Refusal). gave (Ended (refusal z)) ts es ps) p ∙ q
 
 -- the demand, of what was given
 pub judgement_gave : (s : List ℕ) (budget : ℕ) (ts es ps : List ℕ) (i c : ℕ) {x : Answered} → x ≡ member s budget ts es ps i c → (B : Book) → decode s ≡ accepted B → Judgement B i c x.answer

@@ -1,5 +1,7 @@
 -- What a function's answer and the lists at exit are.
-use Rattle.std.specs.Prelude.{ℕ, List}
+use Rattle.std.specs.Prelude.{ℕ, List, Result, Ok, Err}
+use Rattle.book.specs.declared.refusal.Refusal.{Refusal}
+use Rattle.verdict.specs.declared.end.End.TheVariants.{Refused as refused}
 use Rattle.verdict.specs.Conclude.{end_of}
 use Rattle.member.specs.Answer.{Answer, Shown, NotShown, Ended, Answered}
 use Rattle.judge.specs.declared.answer.Answer.{Answer as Given}
@@ -14,3 +16,8 @@ answer_of (ended x) = Ended (end_of x)
 -- the answer, and the type, edge and pair list at exit
 abbrev pub gave : Given → List ℕ → List ℕ → List ℕ → Answered
 gave r ts es ps = record { answer = answer_of r; types = ts; edges = es; pairs = ps }
+
+-- the answer of a question that may be refused
+abbrev pub answered : Result Given Refusal → Given
+answered (Ok r) = r
+answered (Err e) = ended (refused e)

@@ -31,8 +31,8 @@ pub struct Question {
     pub concept: u32,
 }
 
-// With rows for at most 64 concepts.
-fn shown_small(
+// With so many words for the rows of concepts.
+fn shown_in<const R: usize>(
     book: &[u8],
     offsets: &[usize],
     counts: Counts,
@@ -42,30 +42,10 @@ fn shown_small(
 ) -> bool
     requires ready { Ready book.now counts offsets.now t.now groups.now }
     requires concept_lt_concepts { (question.concept < counts.concepts) × (question.individual < counts.individuals) }
-    requires concepts_bound { counts.concepts ≤ 64 }
+    requires rows { (counts.concepts * 8 ≤ R) × (R ≤ 32768) }
     ensures { result ≡ shown_by counts t.now groups.now (tree (book_of book.now) question.concept) question.individual }
 {
-    let mut rows = [0u64; 512];
-    let mut done = [0u64; 64];
-    let k = question.concept as usize;
-    let i = question.individual as usize;
-    shown(book, offsets, counts, t, groups, &mut rows, &mut done, k, i)
-}
-
-// With rows for as many as any book has.
-fn shown_any(
-    book: &[u8],
-    offsets: &[usize],
-    counts: Counts,
-    t: &[u64],
-    groups: &[u64],
-    question: Question,
-) -> bool
-    requires ready { Ready book.now counts offsets.now t.now groups.now }
-    requires concept_lt_concepts { (question.concept < counts.concepts) × (question.individual < counts.individuals) }
-    ensures { result ≡ shown_by counts t.now groups.now (tree (book_of book.now) question.concept) question.individual }
-{
-    let mut rows = [0u64; 32768];
+    let mut rows = [0u64; R];
     let mut done = [0u64; 64];
     let k = question.concept as usize;
     let i = question.individual as usize;
@@ -85,9 +65,9 @@ fn is_shown(
     ensures { result ≡ shown_by counts t.now groups.now (tree (book_of book.now) question.concept) question.individual }
 {
     if counts.concepts <= 64 {
-        return shown_small(book, offsets, counts, t, groups, question);
+        return shown_in::<512>(book, offsets, counts, t, groups, question);
     }
-    shown_any(book, offsets, counts, t, groups, question)
+    shown_in::<32768>(book, offsets, counts, t, groups, question)
 }
 
 fn finished(shown: bool, types: u32, edges: u32, pairs: u32) -> Answer

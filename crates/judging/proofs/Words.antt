@@ -1,45 +1,15 @@
 -- The laws of src/row.rt, word by word.
-use Prim.Native.Nat.{ℕ, zero, suc, ◌+◌, ◌*◌, ◌/◌, ◌%◌, ◌<◌, ◌≤◌}
+use Prim.Native.Nat.{ℕ, zero, suc, ◌+◌, ◌*◌, ◌/◌, ◌%◌, ◌<◌}
 use mathlib.Core.Path.{◌≡◌, refl, sym, ◌∙◌}
-use mathlib.Core.Bool.{true, ◌&&◌}
+use mathlib.Core.Bool.{true}
 use mathlib.Core.List.{List}
 use native.Mathlib.Decide.{ℕ_discrete}
 use native.Mathlib.Omega.{arith}
 use lib.ListN.{length, get_or, set, length-set}
-use lib.Bits.{bit_and}
 use borrow.Author.Tests.{eq-eqb}
 use Rattle.rows.specs.Row.{bit, at, has}
-use Rattle.rows.proofs.row.Bits.{bit_suc, bit_and_lem, at_set_same, at_set_other, at_word}
-use Rattle.judging.specs.Row.{Met, Copied, Filled}
-
--- the first w words are met, the others as they were
-pub record Meeting (c t : List ℕ) (k w : ℕ) (d : List ℕ) : Type 0 where
-  pub len : length d ≡ length c
-  pub done : (x : ℕ) → x < w * 64 → has d 0 x ≡ (has c 0 x && has t k x)
-  pub rest : (x : ℕ) → x < 512 → w * 64 ≤ x → has d 0 x ≡ has c 0 x
-
-pub meeting_none : (c t : List ℕ) (k : ℕ) → Meeting c t k 0 c
-meeting_none c t k = record { len = refl; done = λ x l. absurd (omega arith); rest = λ x l m. refl }
-
-pub meeting_more : {c t d : List ℕ} {k w : ℕ} → Meeting c t k w d → w < 8 → w < length d → Meeting c t k (w + 1) (set d w (bit_and (get_or d w 0) (get_or t (k * 8 + w) 0)))
-meeting_more {c} {t} {d} {k} {w} p l h = record {
-  len = length-set d w v ∙ p.len;
-  done = λ x m. go x m (ℕ_discrete (x / 64) w);
-  rest = λ x m o. at_set_other d w v (0 * 512 + x) (λ e. omega arith) ∙ p.rest x m (omega arith);
-}
-  where
-    v : ℕ
-    v = bit_and (get_or d w 0) (get_or t (k * 8 + w) 0)
-
-    go : (x : ℕ) → x < (w + 1) * 64 → Dec (x / 64 ≡ w) → has (set d w v) 0 x ≡ (has c 0 x && has t k x)
-    go x m (yes e) =
-        let q : (0 * 512 + x) % 64 ≡ x % 64 = omega arith in
-        at_set_same d w v (0 * 512 + x) h (omega arith) ∙ rw q (bit_and_lem (get_or d w 0) (get_or t (k * 8 + w) 0) (x % 64)
-        ∙ rw (← at_word d w (x % 64) (0 * 512 + x) (omega arith) (omega arith), ← at_word t (k * 8 + w) (x % 64) (k * 512 + x) (omega arith) (omega arith), p.rest x (omega arith) (omega arith)))
-    go x m (no e) = at_set_other d w v (0 * 512 + x) (λ q. omega arith) ∙ p.done x (omega arith)
-
-pub meeting_all : {c t d : List ℕ} {k w : ℕ} → Meeting c t k w d → w ≡ 8 → Met c t k d
-meeting_all p e = record { len = p.len; row = λ x l. p.done x (omega arith) }
+use Rattle.rows.proofs.row.Bits.{bit_suc, at_set_same, at_set_other, at_word}
+use Rattle.judging.specs.Row.{Copied, Filled}
 
 -- the first w words are copied
 pub record Copying (s : List ℕ) (k : ℕ) (c : List ℕ) (w : ℕ) (t : List ℕ) : Type 0 where

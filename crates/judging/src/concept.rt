@@ -11,7 +11,7 @@ ghost use Rattle.judging.specs.Memo.{shown_by, Ready, Memo, Further, Judged, Pas
 use super::row::copy;
 use super::start::{begin, give};
 use super::way::{Left, count_of, part_of, way_of};
-use book::concept::{ConceptExpr, ReadConcept, concept_at};
+use book::concept::{ConceptExpr, concept_at};
 use book::header::Counts;
 use rows::row::{insert, member};
 
@@ -21,9 +21,7 @@ fn record_at(book: &[u8], offsets: &[usize], counts: Counts, k: usize) -> Concep
     requires k_lt_concepts { k < counts.concepts }
     ensures { RecordOf book.now counts k result }
 {
-    let at = offsets[k];
-    let read = concept_at(book, at, k as u32, counts);
-    let ReadConcept::Next(expr, _) = read else {
+    let Ok((expr, _)) = concept_at(book, offsets[k], k as u32, counts) else {
         return ConceptExpr::Bot;
     };
     expr
@@ -61,18 +59,14 @@ fn give_done(
     ensures by_index { (g : List ℕ) → Memo book.now counts t.now g rows.now done.now → Passed book.now counts t.now g left result acc.old acc.new }
 {
     let way = left.way;
-    let count = left.count;
-    let mut next = left.next;
-    while next < count {
+    for next in left.next..left.count {
         let p = part_of(book, way, next);
-        if is_done(done, p) {
-            give(counts, t, way, rows, p, acc);
-            next += 1;
-        } else {
+        if !is_done(done, p) {
             return next;
         }
+        give(counts, t, way, rows, p, acc);
     }
-    next
+    left.count
 }
 
 // Works out row k, and the rows that it needs.
@@ -166,10 +160,8 @@ pub fn shown(
     ensures value { result ≡ shown_by counts t.now groups.now (tree (book_of book.now) k) i }
     ensures further { Further book.now counts t.now groups.now rows.old done.old rows.new done.new }
 {
-    let mut j = 0;
-    while j < k {
+    for j in 0..k {
         concept(book, offsets, counts, t, groups, rows, done, j);
-        j += 1;
     }
     concept(book, offsets, counts, t, groups, rows, done, k);
     member(rows, k, i)

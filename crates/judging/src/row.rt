@@ -1,16 +1,6 @@
 // One row of eight words, changed by another. Of a row only the bits below the number of individuals count.
 ghost use Rattle.std.specs.Prelude.{◌+◌, ◌*◌, ◌≤◌, length};
-ghost use Rattle.judging.specs.Row.{Met, Copied, Filled};
-
-// Leaves in the row acc what is in row k of t too.
-pub(crate) fn meet(acc: &mut [u64], t: &[u64], k: usize)
-    requires { (8 ≤ length acc.old) × (k * 8 + 8 ≤ length t.now) }
-    ensures { Met acc.old t.now k acc.new }
-{
-    for w in 0..8 {
-        acc[w] = acc[w] & t[k * 8 + w];
-    }
-}
+ghost use Rattle.judging.specs.Row.{Copied, Filled};
 
 // Makes row k of t the row acc.
 pub(crate) fn copy(t: &mut [u64], k: usize, acc: &[u64])
@@ -28,6 +18,6 @@ pub(crate) fn fill(acc: &mut [u64])
     ensures { Filled acc.old acc.new }
 {
     for w in 0..8 {
-        acc[w] = 18446744073709551615;
+        acc[w] = u64::MAX;
     }
 }

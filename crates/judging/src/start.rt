@@ -6,12 +6,12 @@ ghost use Rattle.tables.specs.Open.{size_of};
 ghost use Rattle.judging.specs.Way.{StartIn, RoleIn};
 ghost use Rattle.judging.specs.Memo.{Laid, Started, Gave, Empty, Selves, SelfPut, RowPut, Fellows};
 
-use super::row::{fill, meet};
+use super::row::fill;
 use super::way::Way;
 use book::concept::ConceptExpr;
 use book::header::Counts;
 use book::role::field_of;
-use rows::row::{compose, gather, insert, member};
+use rows::row::{compose, gather, insert, meet, member};
 use rows::table::{flip, row_of, rows_of};
 use tables::size::{class_field, size_of};
 
@@ -30,10 +30,8 @@ fn selves(acc: &mut [u64], t: &[u64], first: usize, n: usize)
     requires { (8 ≤ length acc.old) × ((first + n) * 8 ≤ length t.now) × (n ≤ 512) × (first ≤ 66690) }
     ensures { Selves t.now first n acc.old acc.new }
 {
-    let mut i = 0;
-    while i < n {
+    for i in 0..n {
         put_self(acc, t, first + i, i);
-        i += 1;
     }
 }
 
@@ -52,10 +50,8 @@ fn fellows(acc: &mut [u64], g: &[u64], b: usize, n: usize)
     requires { (8 ≤ length acc.old) × (n * 8 ≤ length g.now) × (b < 512) × (n ≤ 512) }
     ensures { Fellows g.now b n acc.old acc.new }
 {
-    let mut l = 0;
-    while l < n {
+    for l in 0..n {
         put_row(acc, g, b, l);
-        l += 1;
     }
 }
 
@@ -107,7 +103,7 @@ pub(crate) fn give(counts: Counts, t: &[u64], way: Way, rows: &[u64], p: usize, 
             rows_of(size, flip(field_of(r))),
             size.individuals,
         ),
-        Way::Every(_) => meet(acc, rows, p),
+        Way::Every(_) => meet(acc, 0, rows, p),
         Way::Any(_) => gather(acc, 0, rows, p),
     }
 }

@@ -42,6 +42,7 @@ use Rattle.steps.proofs.Rows.{before_row, named_same}
 use Rattle.drawing.proofs.Concepts.{type_wide, type_ends}
 use Rattle.listing.specs.declared.clash.Found.{Found}
 use Rattle.listing.specs.Clashes.{typed, Partner, Two, Pair, Clashing, ClashPut}
+use Rattle.std.proofs.Common.{None, Some}
 
 -- ---- the searches
 
@@ -64,47 +65,58 @@ abbrev pub Alone : Size → List ℕ → List ℕ → ℕ → ℕ → ℕ → Ty
 Alone z t P x a r = (b : ℕ) → b < r → b < z.classes → has P a b ≡ true → typed z t x b → ⊥
 
 module _ (z : Size) (t P : List ℕ) (x a : ℕ) where
-  pub alone_begin : {r : ℕ} → Scan (has P a) 0 z.classes r → Alone z t P x a r
-  alone_begin c b l m e o = false_true (sym (c.gap b (omega arith) l) ∙ e)
+  pub alone_none : Alone z t P x a 0
+  alone_none b l = absurd (omega arith)
 
-  pub alone_again : {b r j : ℕ} → j ≡ base z (z.fields - 2) + x → Alone z t P x a b → has t j b ≡ false → Scan (has P a) (b + 1) z.classes r → Alone z t P x a r
-  alone_again {b} {r} {j} e h f c i l m p o = go (ℕ_discrete i b) (dec_lt i b)
+  -- none before the next one that the pairs have
+  pub alone_to : {p r : ℕ} → Alone z t P x a p → Scan (has P a) p z.classes r → Alone z t P x a r
+  alone_to {p} h c i l m e o = go (dec_lt i p)
     where
-      go : Dec (i ≡ b) → Dec (i < b) → ⊥
-      go (yes q) d = false_true (sym f ∙ (ap (λ (u : ℕ). has t u b) e ∙ subst (λ (u : ℕ). typed z t x u) q o))
-      go (no q) (yes d) = h i d m p o
-      go (no q) (no d) = false_true (sym (c.gap i (omega arith) l) ∙ p)
+      go : Dec (i < p) → ⊥
+      go (yes d) = h i d m e o
+      go (no d) = false_true (sym (c.gap i (omega arith) l) ∙ e)
 
-  pub partner_found : {r j : ℕ} → j ≡ base z (z.fields - 2) + x → r < z.classes → has P a r ≡ true → has t j r ≡ true → Partner z t P x a r
-  partner_found {r} e l p o = record { pair = λ i. p; type = λ i. ap (λ (u : ℕ). has t u r) (sym e) ∙ o; none_at_lem = λ i. absurd (omega arith) }
+  pub alone_more : {b j : ℕ} → j ≡ base z (z.fields - 2) + x → Alone z t P x a b → has t j b ≡ false → Alone z t P x a (b + 1)
+  alone_more {b} {j} e h f i l m p o = go (ℕ_discrete i b)
+    where
+      go : Dec (i ≡ b) → ⊥
+      go (yes q) = false_true (sym f ∙ (ap (λ (u : ℕ). has t u b) e ∙ subst (λ (u : ℕ). typed z t x u) q o))
+      go (no q) = h i (omega arith) m p o
 
-  pub partner_none : {b : ℕ} → z.classes ≤ b → Alone z t P x a b → Partner z t P x a z.classes
-  partner_none l h = record { pair = λ i. absurd (omega arith); type = λ i. absurd (omega arith); none_at_lem = λ i b m. h b (omega arith) m }
+  pub partner_found : {r j : ℕ} → j ≡ base z (z.fields - 2) + x → r < z.classes → has P a r ≡ true → has t j r ≡ true → Partner z t P x a (Some r)
+  partner_found {r} e l p o = (l, p, ap (λ (u : ℕ). has t u r) (sym e) ∙ o)
+
+  pub partner_none : Alone z t P x a z.classes → Partner z t P x a None
+  partner_none h b l = h b l l
 
 -- no class below r with one that clashes
-abbrev pub None : Size → List ℕ → List ℕ → ℕ → ℕ → Type 0
-None z t P x r = (a : ℕ) → a < r → (b : ℕ) → a < z.classes → b < z.classes → has P a b ≡ true → typed z t x a → typed z t x b → ⊥
+abbrev pub ApartBelow : Size → List ℕ → List ℕ → ℕ → ℕ → Type 0
+ApartBelow z t P x r = (a : ℕ) → a < r → (b : ℕ) → a < z.classes → b < z.classes → has P a b ≡ true → typed z t x a → typed z t x b → ⊥
 
 module _ (z : Size) (t P : List ℕ) (x : ℕ) where
-  pub none_begin : {r j : ℕ} → j ≡ base z (z.fields - 2) + x → Scan (has t j) 0 z.classes r → None z t P x r
-  none_begin {r} {j} e c a l b m n p o q = false_true (sym (c.gap a (omega arith) l) ∙ (ap (λ (u : ℕ). has t u a) e ∙ o))
+  pub apart_none : ApartBelow z t P x 0
+  apart_none a l = absurd (omega arith)
 
-  pub none_again : {a r j d : ℕ} → j ≡ base z (z.fields - 2) + x → None z t P x a → Partner z t P x a d → z.classes ≤ d → Scan (has t j) (a + 1) z.classes r → None z t P x r
-  none_again {a} {r} {j} e h f g c i l b m n p o q = go (ℕ_discrete i a) (dec_lt i a)
+  -- none before the next one that x has
+  pub apart_to : {p r j : ℕ} → j ≡ base z (z.fields - 2) + x → ApartBelow z t P x p → Scan (has t j) p z.classes r → ApartBelow z t P x r
+  apart_to {p} {r} {j} e h c i l b m n u q o = go (dec_lt i p)
     where
-      go : Dec (i ≡ a) → Dec (i < a) → ⊥
-      go (yes u) d = f.none_at_lem g b n (subst (λ (v : ℕ). has P v b ≡ true) u p) q
-      go (no u) (yes d) = h i d b m n p o q
-      go (no u) (no d) = false_true (sym (c.gap i (omega arith) l) ∙ (ap (λ (v : ℕ). has t v i) e ∙ o))
+      go : Dec (i < p) → ⊥
+      go (yes d) = h i d b m n u q o
+      go (no d) = false_true (sym (c.gap i (omega arith) l) ∙ (ap (λ (v : ℕ). has t v i) e ∙ q))
 
-  pub pair_found : {a b j : ℕ} → j ≡ base z (z.fields - 2) + x → x < z.individuals → a < z.classes → has t j a ≡ true → Partner z t P x a b → b < z.classes → Pair z t P x (record { at = x; one = a; other = b })
-  pair_found {a} {b} e lx la o f l = record {
-    two = λ i. record { at = lx; one = la; pair = f.pair l; has_one = ap (λ (u : ℕ). has t u a) (sym e) ∙ o; has_other = f.type l };
-    none_at_lem = λ i. absurd (omega arith);
-  }
+  pub apart_more : {a : ℕ} → ApartBelow z t P x a → Partner z t P x a None → ApartBelow z t P x (a + 1)
+  apart_more {a} h f i l b m n p q o = go (ℕ_discrete i a)
+    where
+      go : Dec (i ≡ a) → ⊥
+      go (yes u) = f b n (subst (λ (v : ℕ). has P v b ≡ true) u p) o
+      go (no u) = h i (omega arith) b m n p q o
 
-  pub pair_none : {r : ℕ} → z.classes ≤ r → None z t P x r → Pair z t P x (record { at = x; one = 0; other = z.classes })
-  pair_none l h = record { two = λ i. absurd (omega arith); none_at_lem = λ i a b m n p. h a (omega arith) b m n p }
+  pub pair_found : {a b j : ℕ} → j ≡ base z (z.fields - 2) + x → x < z.individuals → a < z.classes → has t j a ≡ true → Partner z t P x a (Some b) → Pair z t P x (Some (record { at = x; one = a; other = b }))
+  pair_found {a} {b} e lx la o f = record { at = lx; one = la; other = f.0; pair = f.1; has_one = ap (λ (u : ℕ). has t u a) (sym e) ∙ o; has_other = f.2 }
+
+  pub pair_none : ApartBelow z t P x z.classes → Pair z t P x None
+  pair_none h a b m n p = h a m b m n p
 
 -- ---- the row
 
@@ -140,19 +152,19 @@ module _ {s O : List ℕ} {h : Counts} {t : List ℕ} {n : ℕ} {l : List ℕ} (
   same_classes = ap (λ (g : Counts). g.classes) o.counts
 
   -- types that clash are found
-  not_found : {P : List ℕ} {r : Found} → PairsOf (book_of s) h P → by_types (book_of s) (known_in h t) ≡ true → Clashing (size_of h) t P r → h.classes ≤ r.other → ⊥
-  not_found {P} {r} pairs c f l =
+  not_found : {P : List ℕ} → PairsOf (book_of s) h P → by_types (book_of s) (known_in h t) ≡ true → Clashing (size_of h) t P None → ⊥
+  not_found {P} pairs c f =
       let it : TwoTypes (book_of s) top pairs_low marks_below (known_in h t) = clashing (book_of s) top pairs_low marks_below (known_in h t) c in
       let i : it.at < h.individuals = subst (λ (u : ℕ). it.at < u) same_individuals it.at_low in
       let a : it.one < h.classes = subst (λ (u : ℕ). it.one < u) same_classes it.one_low in
       let b : it.other < h.classes = subst (λ (u : ℕ). it.other < u) same_classes it.other_low in
-      f.none_at_lem l it.at i it.one it.other a b (pairs.pairs it.one it.other a b ∙ it.clash) (sym (type_at it.at it.one i a) ∙ it.has_one) (sym (type_at it.at it.other i b) ∙ it.has_other)
+      f it.at i it.one it.other a b (pairs.pairs it.one it.other a b ∙ it.clash) (sym (type_at it.at it.one i a) ∙ it.has_one) (sym (type_at it.at it.other i b) ∙ it.has_other)
 
   -- and where none are, something is denied
-  pub denied_there : {P : List ℕ} {r : Found} → PairsOf (book_of s) h P → clashes (book_of s) (known_in h t) ≡ true → Clashing (size_of h) t P r → h.classes ≤ r.other → some (denied (book_of s)) (known_in h t) ≡ true
+  pub denied_there : {P : List ℕ} → PairsOf (book_of s) h P → clashes (book_of s) (known_in h t) ≡ true → Clashing (size_of h) t P None → some (denied (book_of s)) (known_in h t) ≡ true
   unfolding clashes
-  denied_there {P} {r} pairs c f l =
-      ⊎_elim (λ e. absurd (not_found pairs e f l)) (λ e. e) (or_cases (by_types (book_of s) (known_in h t)) (some (denied (book_of s)) (known_in h t)) c)
+  denied_there {P} pairs c f =
+      ⊎_elim (λ e. absurd (not_found pairs e f)) (λ e. e) (or_cases (by_types (book_of s) (known_in h t)) (some (denied (book_of s)) (known_in h t)) c)
 
   abbrev row_of : ℕ → ℕ → Row
   row_of i j = record { rule = 8; statement = none; first = i; second = j; third = none; kind = 2; one = none; two = none; three = none }
@@ -161,7 +173,7 @@ module _ {s O : List ℕ} {h : Counts} {t : List ℕ} {n : ℕ} {l : List ℕ} (
   unfolding claim
   row_claims g i j = refl
 
-  module _ {P : List ℕ} {r : Found} (pairs : PairsOf (book_of s) h P) (two : Two (size_of h) t P r) (below : r.other < h.classes) {i j : ℕ} (pi : Place h l n (fact_of (size_of h) ((size_of h).fields - 2) r.at r.one) i) (pj : Place h l n (fact_of (size_of h) ((size_of h).fields - 2) r.at r.other) j) where
+  module _ {P : List ℕ} {r : Found} (pairs : PairsOf (book_of s) h P) (two : Two (size_of h) t P r) {i j : ℕ} (pi : Place h l n (fact_of (size_of h) ((size_of h).fields - 2) r.at r.one) i) (pj : Place h l n (fact_of (size_of h) ((size_of h).fields - 2) r.at r.other) j) where
     few : n ≤ none
     few = omega (arith, listed_low w)
 
@@ -176,7 +188,7 @@ module _ {s O : List ℕ} {h : Counts} {t : List ℕ} {n : ℕ} {l : List ℕ} (
         types_clash (book_of s) top pairs_low marks_below (named h l (row_of i j)) r.at r.one r.other (rw same_individuals two.at)
         (has_type r.at r.one i pi (named h l (row_of i j)) (named_first h l (row_of i j)))
         (has_type r.at r.other j pj (named h l (row_of i j)) (named_second h l (row_of i j)))
-        (sym (pairs.pairs r.one r.other two.one below) ∙ two.pair)
+        (sym (pairs.pairs r.one r.other two.one two.other) ∙ two.pair)
 
     by_clash_law : (Q : Set) → by_types (book_of s) Q ≡ true → by_clash_lem (book_of s) (row_of i j) Q ≡ true
     unfolding by_clash_lem

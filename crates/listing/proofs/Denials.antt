@@ -15,8 +15,6 @@ use Rattle.book.specs.Reader.{turn_at_lem}
 use Rattle.book.specs.Within.{RoleWithin}
 use Rattle.book.specs.declared.header.Counts.{Counts}
 use Rattle.book.specs.declared.role.Role.{Role}
-use Rattle.book.specs.declared.reader.Turn.{Turn}
-use Rattle.book.specs.declared.reader.Turn.TheVariants.{Next, End}
 use Rattle.book.specs.declared.statement.Statement.{Statement}
 use Rattle.book.specs.declared.statement.Axiom.{Axiom}
 use Rattle.book.specs.declared.statement.Axiom.TheVariants.{SubClassOf, EquivalentClasses, DisjointClasses, InverseObjectProperties, SubObjectPropertyOf, TransitiveRole, SymmetricRole, FunctionalRole, InverseFunctionalRole, ObjectPropertyDomain, ObjectPropertyRange, SameIndividual, ClassAssertion, ObjectPropertyAssertion, DifferentIndividuals, NegativeObjectPropertyAssertion}
@@ -51,6 +49,8 @@ use Rattle.turns.specs.Turns.{Located}
 use Rattle.listing.specs.declared.deny.Denier.{Denier}
 use Rattle.listing.specs.Clashes.{ClashPut}
 use Rattle.listing.specs.Denials.{Denial, DenialAt, Denies}
+use Rattle.std.proofs.Common.{Option, None, Some}
+use Rattle.std.proofs.lemmas.Option.{some_pair_parts}
 use Rattle.listing.proofs.Clashes.{accepts_by}
 
 -- a test that failed, or not
@@ -75,36 +75,24 @@ module _ {s : List ℕ} {h : Counts} {t : List ℕ} {n : ℕ} {l : List ℕ} (w 
   says_it : (f k : ℕ) → Place h l n f k → says (says_row h l k) f ≡ true
   says_it f k p = said (says (says_row h l k)) (subst (λ (c : Claim). In (says c) (says (says_row h l k))) (place_says few p) (λ g e. e))
 
-  pub deny_nothing : (x : Axiom) → denied_by x ≡ [] → Denial s h t l n x n
-  deny_nothing x e = record { quiet = λ q. ap (λ (fs : List ℕ). some fs (known_in h t)) e; lower = λ q. absurd (q refl); by_row = λ q. absurd (q refl) }
+  pub deny_nothing : (x : Axiom) → denied_by x ≡ [] → Denial s h t l n x None
+  deny_nothing x e = ap (λ (fs : List ℕ). some fs (known_in h t)) e
 
   -- ---- two individuals
 
-  pub pair_told : (i j : ℕ) {K : List ℕ} → LabelsOf (book_of s) h K → i < h.individuals → j < h.individuals → get_or K i 0 ≡ get_or K j 0 → Denial s h t l n (DifferentIndividuals i j) none
-  pair_told i j {K} labels li lj e = record {
-    quiet = λ q. absurd (omega (arith, listed_low w, q));
-    lower = λ q. before_none n;
-    by_row = λ q. or_left (same (book_of s) i j) _ (sym (labels.labels i j li lj) ∙ eq-eqb (get_or K i 0) (get_or K j 0) e);
-  }
+  pub pair_told : (i j : ℕ) {K : List ℕ} → LabelsOf (book_of s) h K → i < h.individuals → j < h.individuals → get_or K i 0 ≡ get_or K j 0 → Denial s h t l n (DifferentIndividuals i j) (Some none)
+  pair_told i j {K} labels li lj e = (before_none n, or_left (same (book_of s) i j) _ (sym (labels.labels i j li lj) ∙ eq-eqb (get_or K i 0) (get_or K j 0) e))
 
-  pub pair_quiet : (i j : ℕ) {x : Bool} → i < h.individuals → j < h.individuals → x ≡ has t (class_row_lem h i) j → not x ≡ true → Denial s h t l n (DifferentIndividuals i j) n
+  pub pair_quiet : (i j : ℕ) {x : Bool} → i < h.individuals → j < h.individuals → x ≡ has t (class_row_lem h i) j → not x ≡ true → Denial s h t l n (DifferentIndividuals i j) None
   pair_quiet i j li lj e f =
       let c : j < 512 = omega (arith, (listed_limits w).individuals_top) in
-      record { quiet = λ q. or-false _ ∙ (known_pair h t i j c ∙ (together_in h t i j li lj ∙ fails e f)); lower = λ q. absurd (q refl); by_row = λ q. absurd (q refl) }
+      or-false _ ∙ (known_pair h t i j c ∙ (together_in h t i j li lj ∙ fails e f))
 
-  pub pair_up : (i j k : ℕ) → Place h l n (pair i j) k → Denial s h t l n (DifferentIndividuals i j) k
-  pair_up i j k p = record {
-    quiet = λ q. absurd (omega (arith, p.low, q));
-    lower = λ q. before_row n k p.low;
-    by_row = λ q. or_right (same (book_of s) i j) _ (or_left (says (says_row h l k) (pair i j)) _ (says_it (pair i j) k p));
-  }
+  pub pair_up : (i j k : ℕ) → Place h l n (pair i j) k → Denial s h t l n (DifferentIndividuals i j) (Some k)
+  pair_up i j k p = (before_row n k p.low, or_right (same (book_of s) i j) _ (or_left (says (says_row h l k) (pair i j)) _ (says_it (pair i j) k p)))
 
-  pub pair_down : (i j k : ℕ) → Place h l n (pair j i) k → Denial s h t l n (DifferentIndividuals i j) k
-  pair_down i j k p = record {
-    quiet = λ q. absurd (omega (arith, p.low, q));
-    lower = λ q. before_row n k p.low;
-    by_row = λ q. or_right (same (book_of s) i j) _ (or_right (says (says_row h l k) (pair i j)) _ (says_it (pair j i) k p));
-  }
+  pub pair_down : (i j k : ℕ) → Place h l n (pair j i) k → Denial s h t l n (DifferentIndividuals i j) (Some k)
+  pair_down i j k p = (before_row n k p.low, or_right (same (book_of s) i j) _ (or_right (says (says_row h l k) (pair i j)) _ (says_it (pair j i) k p)))
 
   -- ---- an edge
 
@@ -118,25 +106,21 @@ module _ {s : List ℕ} {h : Counts} {t : List ℕ} {n : ℕ} {l : List ℕ} (w 
         let l = edge_lt r a b (omega (arith, top.roles_top)) (omega (arith, top.individuals_top)) (omega (arith, top.individuals_top)) in
         known_low h t (edge r a b) (omega arith) ∙ edge_leads w.table r a b (omega arith) i j
 
-    pub edge_quiet : {x : Bool} → x ≡ leads (size_of h) t (field_of_lem r) a b → not x ≡ true → Denial s h t l n (NegativeObjectPropertyAssertion r a b) n
-    edge_quiet e f = record { quiet = λ q. or-false _ ∙ (edge_known ∙ fails e f); lower = λ q. absurd (q refl); by_row = λ q. absurd (q refl) }
+    pub edge_quiet : {x : Bool} → x ≡ leads (size_of h) t (field_of_lem r) a b → not x ≡ true → Denial s h t l n (NegativeObjectPropertyAssertion r a b) None
+    edge_quiet e f = or-false _ ∙ (edge_known ∙ fails e f)
 
-    pub edge_there : (k : ℕ) → Place h l n (fact_of (size_of h) (field_of_lem r) a b) k → Denial s h t l n (NegativeObjectPropertyAssertion r a b) k
-    edge_there k p = record {
-      quiet = λ q. absurd (omega (arith, p.low, q));
-      lower = λ q. before_row n k p.low;
-      by_row = λ q. subst (λ (f : ℕ → ℕ → ℕ). says (says_row h l k) (f a b) ≡ true) (field_edge h (listed_sized w) r v) (says_it (fact_of (size_of h) (field_of_lem r) a b) k p);
-    }
+    pub edge_there : (k : ℕ) → Place h l n (fact_of (size_of h) (field_of_lem r) a b) k → Denial s h t l n (NegativeObjectPropertyAssertion r a b) (Some k)
+    edge_there k p = (before_row n k p.low, subst (λ (f : ℕ → ℕ → ℕ). says (says_row h l k) (f a b) ≡ true) (field_edge h (listed_sized w) r v) (says_it (fact_of (size_of h) (field_of_lem r) a b) k p))
 
   -- ---- the statement at an offset
 
-  pub denial_end : {u : Turn} (at : ℕ) {k : ℕ} → u ≡ turn_at_lem s h at → u ≡ End → DenialAt s h t l n at k
-  denial_end at e g z next i = let o : Next z next ≡ End = sym i ∙ (sym e ∙ g) in absurd (let q : ◌≡◌ {A = ℕ} 0 1 = cc in omega arith)
+  pub denial_end : {u : Option (Statement × ℕ)} (at : ℕ) (k : Option ℕ) → u ≡ turn_at_lem s h at → u ≡ None → DenialAt s h t l n at k
+  denial_end at k e g z next i = let o : ◌≡◌ {A = Option (Statement × ℕ)} (Some (z, next)) None = sym i ∙ (sym e ∙ g) in absurd (let q : ◌≡◌ {A = ℕ} 0 1 = cc in omega arith)
 
-  pub denial_next : {u : Turn} {y : Statement} {m : ℕ} (at : ℕ) {k : ℕ} → u ≡ turn_at_lem s h at → u ≡ Next y m → Denial s h t l n y.body k → DenialAt s h t l n at k
-  denial_next {u} {y} {m} at {k} e g d z next i =
-      let o : Next y m ≡ Next z next = sym g ∙ (e ∙ i) in
-      let q : y ≡ z = cc in
+  pub denial_next : {u : Option (Statement × ℕ)} {y : Statement} {m : ℕ} (at : ℕ) (k : Option ℕ) → u ≡ turn_at_lem s h at → u ≡ Some (y, m) → Denial s h t l n y.body k → DenialAt s h t l n at k
+  denial_next {u} {y} {m} at k e g d z next i =
+      let o : Some (y, m) ≡ Some (z, next) = sym g ∙ (e ∙ i) in
+      let q : y ≡ z = (some_pair_parts y z m next o).0 in
       subst (λ (v : Statement). Denial s h t l n v.body k) q d
 
 -- ---- all statements
@@ -158,24 +142,24 @@ abbrev pub Quiet : List ℕ → Counts → List ℕ → ℕ → Type 0
 Quiet s h t k = (j : ℕ) → j < k → (x : Axiom) → member (statements (book_of s)) j ≡ x ∷ [] → some (denied_by x) (known_in h t) ≡ false
 
 module _ (s : List ℕ) (h : Counts) (t : List ℕ) (n : ℕ) (l T : List ℕ) (loc : Located s h T) where
-  module _ (k : ℕ) (below : k < h.statements) {r : ℕ} (law : DenialAt s h t l n (get_or T k 0) r) where
-    here : (y : Statement) × (next : ℕ) × (turn_at_lem s h (get_or T k 0) ≡ Next y next) × (member (statements (book_of s)) k ≡ y.body ∷ [])
+  module _ (k : ℕ) (below : k < h.statements) (r : Option ℕ) (law : DenialAt s h t l n (get_or T k 0) r) where
+    here : (y : Statement) × (next : ℕ) × (turn_at_lem s h (get_or T k 0) ≡ Some (y, next)) × (member (statements (book_of s)) k ≡ y.body ∷ [])
     here = loc.starts k (omega (arith, loc.count))
 
     it_denies : Denial s h t l n here.0.body r
     it_denies = law here.0 here.1 here.2
 
-    pub denier_found : (r ≡ n → ⊥) → Denies s h l n (record { statement = k; place = r })
-    denier_found q = record { it = here.0.body; there = here.3; below = below; lower = it_denies.lower q; by_row = it_denies.by_row q }
+    pub denier_found : {p : ℕ} → r ≡ Some p → Denies s h l n (record { statement = k; place = p })
+    denier_found {p} e = let d = subst (Denial s h t l n here.0.body) e it_denies in record { it = here.0.body; there = here.3; below = below; lower = d.0; by_row = d.1 }
 
-    pub quiet_more : r ≡ n → Quiet s h t k → Quiet s h t (k + 1)
+    pub quiet_more : r ≡ None → Quiet s h t k → Quiet s h t (k + 1)
     quiet_more e q j m y i = go (ℕ_discrete j k)
       where
         go : Dec (j ≡ k) → some (denied_by y) (known_in h t) ≡ false
         go (yes o) =
             let u : here.0.body ∷ [] ≡ y ∷ [] = sym here.3 ∙ subst (λ (p : ℕ). member (statements (book_of s)) p ≡ y ∷ []) o i in
             let v : here.0.body ≡ y = cc in
-            subst (λ (z : Axiom). some (denied_by z) (known_in h t) ≡ false) v (it_denies.quiet e)
+            subst (λ (z : Axiom). some (denied_by z) (known_in h t) ≡ false) v (subst (Denial s h t l n here.0.body) e it_denies)
         go (no o) = q j (omega arith) y i
 
   pub denier_none : (k : ℕ) {r : Denier} → h.statements ≤ k → Quiet s h t k → some (denied (book_of s)) (known_in h t) ≡ true → Denies s h l n r

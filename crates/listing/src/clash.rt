@@ -3,39 +3,39 @@ ghost use Rattle.std.specs.Prelude.{◌≡◌, true, ◌+◌, ◌*◌, ◌≤◌
 ghost use Rattle.rows.specs.Table.{Table};
 ghost use Rattle.rules.specs.Clash.{clashes};
 ghost use Rattle.tables.specs.Open.{book_of, size_of, Open};
-ghost use Rattle.derivation.specs.Tables.{LabelsOf, PairsOf};
-ghost use Rattle.steps.specs.Written.{known_in, Listed};
-ghost use Rattle.turns.specs.Turns.{Located};
-ghost use Rattle.listing.specs.Clashes.{Partner, Two, Pair, Clashing, ClashPut};
+ghost use Rattle.derivation.specs.Tables.{PairsOf};
+ghost use Rattle.steps.specs.Ledger.{ListedIn, Kept};
+ghost use Rattle.steps.specs.Written.{known_in};
+ghost use Rattle.turns.specs.Ready.{Ready};
+ghost use Rattle.listing.specs.Clashes.{Partner, Two, Pair, Clashing, ClashRow, ClashPut};
 
-use super::deny::put_denial;
+use super::deny::denial_row;
 use book::header::Counts;
 use derivation::row::{NONE, Row};
-use rows::row::{member, next};
+use rows::members::Members;
 use rows::table::{Size, row_of};
 use steps::fact::{Link, number_of};
+use steps::ledger::Ledger;
 use steps::place::place_of;
 use steps::put::put_row;
 use tables::size::{size_of, type_field};
+use turns::round::Tables;
 
-// A class of x that clashes with class a; or the number of classes.
-fn find_other(t: &[u64], size: Size, pairs: &[u64], x: usize, a: usize) -> usize
-    requires { Table size t.now × (2048 ≤ length pairs.now) × (x < size.individuals) × (a < size.classes) }
-    ensures { Partner size t.now pairs.now x a result }
+// A class of x that clashes with class a.
+fn find_other(ledger: &Ledger, size: Size, pairs: &[u64], x: usize, a: usize) -> Option<usize>
+    requires { Table size ledger.now.t.now × (2048 ≤ length pairs.now) × (x < size.individuals) × (a < size.classes) }
+    ensures { Partner size ledger.now.t.now pairs.now x a result }
 {
-    let m = size.classes;
     let k = row_of(size, type_field(size), x);
-    let mut b = next(pairs, a, 0, m);
-    while b < m {
-        if member(t, k, b) {
-            return b;
+    for b in Members::of(pairs, a, size.classes) {
+        if ledger.has(k, b) {
+            return Some(b);
         }
-        b = next(pairs, a, b + 1, m);
     }
-    size.classes
+    None
 }
 
-// Two classes of the individual `at` that clash; or no classes, where `other` is their number.
+// Two classes of the individual `at` that clash.
 #[derive(Clone, Copy)]
 struct Found {
     at: usize,
@@ -43,68 +43,50 @@ struct Found {
     other: usize,
 }
 
-fn find_at(t: &[u64], size: Size, pairs: &[u64], x: usize) -> Found
-    requires { Table size t.now × (2048 ≤ length pairs.now) × (x < size.individuals) }
-    ensures { Pair size t.now pairs.now x result }
+fn find_at(ledger: &Ledger, size: Size, pairs: &[u64], x: usize) -> Option<Found>
+    requires { Table size ledger.now.t.now × (2048 ≤ length pairs.now) × (x < size.individuals) }
+    ensures { Pair size ledger.now.t.now pairs.now x result }
 {
-    let m = size.classes;
     let k = row_of(size, type_field(size), x);
-    let mut a = next(t, k, 0, m);
-    while a < m {
-        let b = find_other(t, size, pairs, x, a);
-        if b < m {
-            return Found {
+    for a in Members::of(ledger.t, k, size.classes) {
+        if let Some(other) = find_other(ledger, size, pairs, x, a) {
+            return Some(Found {
                 at: x,
                 one: a,
-                other: b,
-            };
+                other,
+            });
         }
-        a = next(t, k, a + 1, m);
     }
-    Found {
-        at: x,
-        one: 0,
-        other: m,
-    }
+    None
 }
 
 // Two classes of some individual.
-fn find_clash(t: &[u64], size: Size, pairs: &[u64]) -> Found
-    requires { Table size t.now × (2048 ≤ length pairs.now) }
-    ensures { Clashing size t.now pairs.now result }
+fn find_clash(ledger: &Ledger, size: Size, pairs: &[u64]) -> Option<Found>
+    requires { Table size ledger.now.t.now × (2048 ≤ length pairs.now) }
+    ensures { Clashing size ledger.now.t.now pairs.now result }
 {
-    let mut x = 0;
-    while x < size.individuals {
-        let found = find_at(t, size, pairs, x);
-        if found.other < size.classes {
-            return found;
+    for x in 0..size.individuals {
+        if let Some(found) = find_at(ledger, size, pairs, x) {
+            return Some(found);
         }
-        x += 1;
     }
-    Found {
-        at: 0,
-        one: 0,
-        other: size.classes,
-    }
+    None
 }
 
-// Puts the row of two types that clash behind the first n rows.
-fn put_types(
+// The row of two types that clash, behind those of the ledger.
+fn types_row(
     book: &[u8],
     offsets: &[usize],
     counts: Counts,
-    t: &[u64],
-    rows: &mut [u32],
-    places: &[u32],
+    ledger: &Ledger,
     pairs: &[u64],
     found: Found,
-    n: u32,
-)
-    requires listed { Listed book.now counts t.now n rows.old }
+) -> Row
+    requires listed { ListedIn book.now counts ledger.now }
     requires fact { Open book.now counts offsets.now }
-    requires pairs_of { PairsOf (book_of book.now) counts pairs.now × (9 * n + 9 ≤ length rows.old) }
-    requires two { Two (size_of counts) t.now pairs.now found × (found.other < counts.classes) }
-    ensures { ClashPut (book_of book.now) rows.old n rows.new }
+    requires pairs_of { PairsOf (book_of book.now) counts pairs.now }
+    requires two { Two (size_of counts) ledger.now.t.now pairs.now found }
+    ensures { ClashRow (book_of book.now) ledger.now.rows.now ledger.now.len result }
 {
     let size = size_of(counts);
     let one = Link {
@@ -117,9 +99,9 @@ fn put_types(
         from: found.at,
         to: found.other,
     };
-    let first = place_of(counts, rows, n, places, number_of(size, one));
-    let second = place_of(counts, rows, n, places, number_of(size, other));
-    let row = Row {
+    let first = place_of(counts, ledger, number_of(size, one));
+    let second = place_of(counts, ledger, number_of(size, other));
+    Row {
         rule: 8,
         statement: NONE,
         first,
@@ -129,36 +111,49 @@ fn put_types(
         one: NONE,
         two: NONE,
         three: NONE,
-    };
-    put_row(rows, n, row);
+    }
 }
 
-// Puts the row of a clash behind the first n rows.
+// The row of a clash.
+fn clash_row(
+    book: &[u8],
+    offsets: &[usize],
+    counts: Counts,
+    tables: Tables,
+    pairs: &[u64],
+    ledger: &Ledger,
+) -> Row
+    requires listed { ListedIn book.now counts ledger.now }
+    requires fact { Open book.now counts offsets.now }
+    requires ready { Ready book.now counts tables }
+    requires pairs_of { PairsOf (book_of book.now) counts pairs.now × (2048 ≤ length pairs.now) }
+    requires t_value { clashes (book_of book.now) (known_in counts ledger.now.t.now) ≡ true }
+    ensures { ClashRow (book_of book.now) ledger.now.rows.now ledger.now.len result }
+{
+    match find_clash(ledger, size_of(counts), pairs) {
+        Some(found) => types_row(book, offsets, counts, ledger, pairs, found),
+        None => denial_row(book, counts, tables, ledger),
+    }
+}
+
+// Puts the row of a clash behind those of the ledger.
 pub fn put_clash(
     book: &[u8],
     offsets: &[usize],
-    starts: &[usize],
     counts: Counts,
-    t: &[u64],
-    rows: &mut [u32],
-    places: &[u32],
-    labels: &[u32],
+    tables: Tables,
     pairs: &[u64],
-    n: u32,
+    ledger: &mut Ledger,
 )
-    requires listed { Listed book.now counts t.now n rows.old }
+    requires listed { ListedIn book.now counts ledger.old }
     requires fact { Open book.now counts offsets.now }
-    requires pairs_of { PairsOf (book_of book.now) counts pairs.now × (2048 ≤ length pairs.now) × (9 * n + 9 ≤ length rows.old) }
-    requires labels_of { LabelsOf (book_of book.now) counts labels.now × (counts.individuals ≤ length labels.now) }
-    requires located { Located book.now counts starts.now }
-    requires t_value { clashes (book_of book.now) (known_in counts t.now) ≡ true }
-    ensures { ClashPut (book_of book.now) rows.old n rows.new }
+    requires ready { Ready book.now counts tables }
+    requires pairs_of { PairsOf (book_of book.now) counts pairs.now × (2048 ≤ length pairs.now) × (9 * ledger.old.len + 9 ≤ length ledger.old.rows.now) }
+    requires t_value { clashes (book_of book.now) (known_in counts ledger.old.t.now) ≡ true }
+    ensures clash_put { ClashPut (book_of book.now) ledger.old.rows.now ledger.old.len ledger.new.rows.now }
+    ensures t_unchanged { ledger.new.t.now ≡ ledger.old.t.now }
+    ensures kept { Kept ledger.old ledger.new }
 {
-    let size = size_of(counts);
-    let found = find_clash(t, size, pairs);
-    if found.other < size.classes {
-        put_types(book, offsets, counts, t, rows, places, pairs, found, n);
-        return;
-    }
-    put_denial(book, starts, counts, t, rows, places, labels, n);
+    let row = clash_row(book, offsets, counts, tables, pairs, ledger);
+    put_row(ledger.rows, ledger.len, row);
 }

@@ -13,7 +13,7 @@ ghost use Rattle.steps.specs.Joinings.{joinings};
 ghost use Rattle.listing.specs.Joins.{joined_by, joined_with, joined_among, whole_task_lem};
 
 use super::fill::state;
-use book::check::{Checked, check_book};
+use book::check::check_book;
 use book::header::Counts;
 use heed::names::Names;
 use saturation::allot::wanted;
@@ -73,17 +73,10 @@ fn count_all(told: &[u32], labels: &[u32], n: usize) -> u32
 fn whole_task(counts: Counts, from: usize, used: u32) -> Task
     ensures { result ≡ whole_task_lem counts from used }
 {
-    let names = Names {
-        named: false,
-        reader: 0,
-        dated: false,
-        day: 0,
-    };
     Task {
         counts,
         from,
         budget: used,
-        names,
     }
 }
 
@@ -129,7 +122,10 @@ fn count_few(book: &[u8], from: usize, offsets: &[usize], counts: Counts, used: 
     let mut takers = [0u64; 512];
     let mut told = [0u32; 512];
     read_told(book, from, offsets, counts, &mut takers, &mut told);
-    let table = [0u32; 1];
+    let everyone = Names {
+        reader: None,
+        day: None,
+    };
     let mut t = [0u64; 512];
     let mut says = [0u64; 1416];
     let mut chains = [0u8; 256];
@@ -139,7 +135,7 @@ fn count_few(book: &[u8], from: usize, offsets: &[usize], counts: Counts, used: 
         book,
         offsets,
         whole_task(counts, from, used),
-        &table,
+        everyone,
         &mut leaves,
         &mut says,
         &mut chains,
@@ -159,7 +155,10 @@ fn count_many(book: &[u8], from: usize, offsets: &[usize], counts: Counts, used:
     let mut takers = [0u64; 32768];
     let mut told = [0u32; 512];
     read_told(book, from, offsets, counts, &mut takers, &mut told);
-    let table = [0u32; 1];
+    let everyone = Names {
+        reader: None,
+        day: None,
+    };
     let mut t = [0u64; 531480];
     let mut says = [0u64; 75784];
     let mut chains = [0u8; 16384];
@@ -169,7 +168,7 @@ fn count_many(book: &[u8], from: usize, offsets: &[usize], counts: Counts, used:
         book,
         offsets,
         whole_task(counts, from, used),
-        &table,
+        everyone,
         &mut leaves,
         &mut says,
         &mut chains,
@@ -209,8 +208,7 @@ fn count_any(book: &[u8], offsets: &mut [usize], used: u32) -> u32
     requires used_value { used ≡ usedOf (book_of book.now) (conclusions (book_of book.now)) }
     ensures { result ≡ length (joinings (book_of book.now) (conclusions (book_of book.now))) }
 {
-    let check = check_book(book, offsets);
-    let Checked::Accepted(counts, from) = check else {
+    let Ok((counts, from)) = check_book(book, offsets) else {
         return 0;
     };
     count_checked(book, from, offsets, counts, used, 0)

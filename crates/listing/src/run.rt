@@ -17,8 +17,9 @@ ghost use Rattle.listing.specs.Running.{numbers_of_lem, rows_for_lem, PairsFit, 
 
 use super::fill::fill_rows;
 use super::join::count_joinings;
-use book::check::{Checked, check_book};
-use book::header::{Counts, ReadHeader, header_at};
+use book::check::check_book;
+use book::header::{Counts, header_at};
+use book::refusal::Refusal;
 use saturation::allot::wanted;
 use saturation::saturate::saturate;
 use tables::size::size_of;
@@ -60,8 +61,7 @@ fn entries_due(numbers: Numbers) -> usize
 fn pairs_wanted(book: &[u8]) -> u32
     ensures { (result ≡ 0 → PairsFit book.now 512) × (result ≤ 1) }
 {
-    let head = header_at(book);
-    let ReadHeader::Next(counts, _) = head else {
+    let Ok((counts, _)) = header_at(book) else {
         return 0;
     };
     if counts.individuals > 16 {
@@ -259,8 +259,7 @@ fn list_any(
     requires ran { Ran book.now numbers types.old × (9 * rows_for_lem numbers ≤ length rows.old) }
     ensures { RowsLeft book.now numbers types.old rows.old types.new rows.new }
 {
-    let check = check_book(book, offsets);
-    let Checked::Accepted(counts, from) = check else {
+    let Ok((counts, from)) = check_book(book, offsets) else {
         return;
     };
     list_checked(book, from, offsets, counts, numbers, types, rows, 0);
@@ -297,7 +296,7 @@ fn run_listed(
 {
     if rows.len() < entries_due(numbers) {
         clear_both(types, edges);
-        return End::Refused(13);
+        return End::Refused(Refusal::ShortRowList);
     }
     list_rows(book, numbers, types, rows);
     end_with(numbers)

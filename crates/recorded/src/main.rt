@@ -2,14 +2,13 @@
 // the record by the record's rule. A line for each record, and one for all.
 #![tactic(auto)]
 
-ghost use Rattle.std.specs.Prelude.{◌+◌, ◌*◌, ◌≤◌, length};
+ghost use Rattle.std.specs.Prelude.{true, ◌≡◌, ◌+◌, ◌*◌, ◌≤◌, length};
 
 use saturation::saturate::saturate;
+use std::io::Print;
 use verdict::end::End;
 
 const STDIN_FILENO: i32 = 0;
-
-const STDOUT_FILENO: i32 = 1;
 
 // The numbers in front of a record: the length of the book, the rule of comparison, the Rust's verdict (1 is a clash), its type count,
 // and how many edges and pairs are recorded.
@@ -23,360 +22,247 @@ struct Head {
     pairs: u16,
 }
 
-#[derive(Clone, Copy)]
-enum Next {
-    Record(Head),
-    End,
+fn number_at(bytes: &[u8], at: usize) -> u16
+    requires { at + 2 ≤ length bytes.now }
+{
+    u16::from_le_bytes([bytes[at], bytes[at + 1]])
 }
 
-fn word(text: &[u8]) {
-    io::write_all(STDOUT_FILENO, text);
-}
-
-fn number(n: u64) {
-    io::print_decimal(STDOUT_FILENO, n);
-}
-
-fn two_bytes(low: u8, high: u8) -> u16 {
-    (low as u16) + 256 * (high as u16)
-}
-
-// The end of the input, which should leave no bytes.
-fn end(left: usize) -> Next {
-    if 0 < left {
-        word(b"differs: a record is cut off\n");
-    }
-    Next::End
-}
-
-fn next_head() -> Next {
+// The next record's numbers, if there is one; the end of the input should leave no bytes.
+fn next_head(rt: &HostRuntime) -> std::io::Result<Option<Head>> {
     let mut head = [0u8; 12];
     let got = io::read_full(STDIN_FILENO, &mut head);
     if got < 12 {
-        return end(got);
+        if 0 < got {
+            println!(rt; "differs: a record is cut off")?;
+        }
+        return Ok(None);
     }
-    Next::Record(Head {
-        length: two_bytes(head[0], head[1]),
-        rule: two_bytes(head[2], head[3]),
-        clash: two_bytes(head[4], head[5]),
-        types: two_bytes(head[6], head[7]),
-        edges: two_bytes(head[8], head[9]),
-        pairs: two_bytes(head[10], head[11]),
-    })
+    Ok(Some(Head {
+        length: number_at(&head, 0),
+        rule: number_at(&head, 2),
+        clash: number_at(&head, 4),
+        types: number_at(&head, 6),
+        edges: number_at(&head, 8),
+        pairs: number_at(&head, 10),
+    }))
 }
 
-// Whether the next n bytes came; the room has them at its front.
-fn fill(room: &mut [u8], n: usize) -> bool
-    requires { n ≤ length room.old }
+// Whether the next n bytes came, and there was room for them; the room has them at its front.
+fn take(room: &mut [u8], n: usize) -> bool
+    ensures { result ≡ true → n ≤ length room.new }
 {
-    let got = io::read_full(STDIN_FILENO, &mut room[..n]);
-    got == n
-}
-
-// The same, where the room may be too small.
-fn take(room: &mut [u8], n: usize) -> bool {
-    if room.len() < n {
-        return false;
-    }
-    fill(room, n)
+    n <= room.len() && io::read_full(STDIN_FILENO, &mut room[..n]) == n
 }
 
 // Whether two counts agree; where not, it is said.
-fn same_count(name: &[u8], ours: u32, recorded: u16) -> bool {
-    if ours == recorded as u32 {
-        return true;
+fn same_count(rt: &HostRuntime, name: &str, ours: u32, recorded: u16) -> std::io::Result<bool> {
+    let same = ours == u32::from(recorded);
+    if !same {
+        print!(rt; "differs: {name} count {ours}, recorded {recorded}")?;
     }
-    word(b"differs: ");
-    word(name);
-    word(b" count ");
-    number(ours as u64);
-    word(b", recorded ");
-    number(recorded as u64);
-    false
+    Ok(same)
 }
 
-// Number i of a recorded list.
-fn recorded_at(list: &[u8], i: usize) -> u32
-    requires { 2 * i + 2 ≤ length list.now }
+// Whether the entry of ours is the recorded one from a place on.
+fn same(ours: &[u32], list: &[u8], from: usize) -> bool
+    requires { 2 * (from + length ours.now) ≤ length list.now }
 {
-    two_bytes(list[2 * i], list[2 * i + 1]) as u32
-}
-
-// Whether the entry of ours from a place on, so many numbers wide, is the recorded one from another place on.
-fn same(ours: &[u32], at: usize, list: &[u8], from: usize, width: usize) -> bool
-    requires { (at + width ≤ length ours.now) × (2 * (from + width) ≤ length list.now) }
-{
-    let mut k: usize = 0;
-    while k < width {
-        if ours[at + k] != recorded_at(list, from + k) {
+    for k in 0..ours.len() {
+        if ours[k] != u32::from(number_at(list, 2 * (from + k))) {
             return false;
         }
-        k = k + 1;
     }
     true
 }
 
-// How many recorded numbers are found once the entry of ours was looked at: those before, or an entry more.
-fn found(ours: &[u32], at: usize, list: &[u8], from: usize, end: usize, width: usize) -> usize
-    requires { (at + width ≤ length ours.now) × (from ≤ end) × (2 * end ≤ length list.now) }
-    ensures { result ≤ end }
-{
-    if end - from < width {
-        return from;
-    }
-    if same(ours, at, list, from, width) {
-        return from + width;
-    }
-    from
-}
-
 // Whether each recorded entry stands among the first n numbers of ours, in order: both ascend. Of lists of one length it says that
 // they are the same.
-fn walk(ours: &[u32], n: usize, list: &[u8], end: usize, width: usize) -> bool
-    requires { (1 ≤ width) × (n ≤ length ours.now) × (2 * end ≤ length list.now) }
+fn has_every(ours: &[u32], n: usize, list: &[u8], end: usize, width: usize) -> bool
+    requires { 1 ≤ width }
 {
-    let mut at: usize = 0;
-    let mut from: usize = 0;
-    while width <= n - at {
-        from = found(ours, at, list, from, end, width);
-        at = at + width;
+    if ours.len() < n || list.len() / 2 < end {
+        return false;
+    }
+    let mut from = 0;
+    for entry in ours[..n].chunks_exact(width) {
+        if width <= end - from && same(entry, list, from) {
+            from += width;
+        }
     }
     from == end
 }
 
-// The same for lists that may not have so many numbers.
-fn has_every(ours: &[u32], n: usize, list: &[u8], end: usize, width: usize) -> bool
-    requires { 1 ≤ width }
-{
-    if ours.len() < n {
-        return false;
-    }
-    if list.len() / 2 < end {
-        return false;
-    }
-    walk(ours, n, list, end, width)
-}
-
-fn same_counts(head: Head, types: u32, edges: u32, pairs: u32) -> bool {
-    if !same_count(b"type", types, head.types) {
-        return false;
-    }
-    if !same_count(b"edge", edges, head.edges) {
-        return false;
-    }
-    same_count(b"pair", pairs, head.pairs)
-}
-
-fn has_edges(head: Head, edges: u32, ours: &[u32], list: &[u8]) -> bool {
-    let every = has_every(
-        ours,
-        3 * (edges as usize),
-        list,
-        3 * (head.edges as usize),
-        3,
-    );
-    if !every {
-        word(b"differs: edge list");
-    }
-    every
-}
-
-fn has_pairs(head: Head, pairs: u32, ours: &[u32], list: &[u8]) -> bool {
-    let every = has_every(
-        ours,
-        2 * (pairs as usize),
-        list,
-        2 * (head.pairs as usize),
-        2,
-    );
-    if !every {
-        word(b"differs: pair list");
-    }
-    every
-}
-
-// Verdict and counts of a run that finished.
-fn counts_agree(head: Head, types: u32, edges: u32, pairs: u32) -> bool {
-    if head.clash != 0 {
-        word(b"differs: finished, recorded clash");
-        return false;
-    }
-    if head.rule == 2 {
-        return true;
-    }
-    same_counts(head, types, edges, pairs)
-}
-
-// By rule 2 the Rust may finish where ours clashes.
-fn clash_agrees(head: Head) -> bool {
-    if head.rule == 2 {
-        return true;
-    }
-    if head.clash == 1 {
-        return true;
-    }
-    word(b"differs: clash, recorded finished");
-    false
-}
-
-fn refused(n: u8) -> bool {
-    word(b"differs: refused ");
-    number(n as u64);
-    false
-}
-
-fn spent() -> bool {
-    word(b"differs: spent");
-    false
-}
-
-fn lists_agree(
-    head: Head,
-    edges: u32,
-    pairs: u32,
-    our_edges: &[u32],
-    our_pairs: &[u32],
-    edge_list: &[u8],
-    pair_list: &[u8],
-) -> bool {
-    if !has_edges(head, edges, our_edges, edge_list) {
-        return false;
-    }
-    has_pairs(head, pairs, our_pairs, pair_list)
-}
-
-fn finished_agrees(
+fn same_counts(
+    rt: &HostRuntime,
     head: Head,
     types: u32,
     edges: u32,
     pairs: u32,
+) -> std::io::Result<bool> {
+    Ok(
+        same_count(rt, "type", types, head.types)?
+            && same_count(rt, "edge", edges, head.edges)?
+            && same_count(rt, "pair", pairs, head.pairs)?,
+    )
+}
+
+// Verdict and counts of a run that finished.
+fn counts_agree(
+    rt: &HostRuntime,
+    head: Head,
+    types: u32,
+    edges: u32,
+    pairs: u32,
+) -> std::io::Result<bool> {
+    if head.clash != 0 {
+        print!(rt; "differs: finished, recorded clash")?;
+        return Ok(false);
+    }
+    if head.rule == 2 {
+        return Ok(true);
+    }
+    same_counts(rt, head, types, edges, pairs)
+}
+
+// Whether the recorded edges and pairs are among ours; where not, it is said.
+fn lists_agree(
+    rt: &HostRuntime,
+    head: Head,
+    edges: u32,
+    pairs: u32,
     our_edges: &[u32],
     our_pairs: &[u32],
     edge_list: &[u8],
     pair_list: &[u8],
-) -> bool {
-    if !counts_agree(head, types, edges, pairs) {
-        return false;
+) -> std::io::Result<bool> {
+    let recorded_edges = 3 * usize::from(head.edges);
+    if !has_every(
+        our_edges,
+        3 * (edges as usize),
+        edge_list,
+        recorded_edges,
+        3,
+    ) {
+        print!(rt; "differs: edge list")?;
+        return Ok(false);
     }
-    lists_agree(
-        head, edges, pairs, our_edges, our_pairs, edge_list, pair_list,
-    )
+    let recorded_pairs = 2 * usize::from(head.pairs);
+    if !has_every(
+        our_pairs,
+        2 * (pairs as usize),
+        pair_list,
+        recorded_pairs,
+        2,
+    ) {
+        print!(rt; "differs: pair list")?;
+        return Ok(false);
+    }
+    Ok(true)
 }
 
-// Whether an end agrees with the record by its rule; where not, what differs is said.
+// Whether an end agrees with the record by its rule; where not, what differs is said. By rule 2 the Rust may finish where ours clashes.
 fn agrees(
+    rt: &HostRuntime,
     head: Head,
     end: End,
     our_edges: &[u32],
     our_pairs: &[u32],
     edge_list: &[u8],
     pair_list: &[u8],
-) -> bool {
+) -> std::io::Result<bool> {
     match end {
-        End::Finished(types, edges, pairs) => finished_agrees(
-            head, types, edges, pairs, our_edges, our_pairs, edge_list, pair_list,
-        ),
-        End::Clash(_, _) => clash_agrees(head),
-        End::Spent => spent(),
-        End::Refused(n) => refused(n),
+        End::Finished(types, edges, pairs) => {
+            if !counts_agree(rt, head, types, edges, pairs)? {
+                return Ok(false);
+            }
+            lists_agree(
+                rt, head, edges, pairs, our_edges, our_pairs, edge_list, pair_list,
+            )
+        }
+        End::Clash(_, _) => {
+            let same = head.rule == 2 || head.clash == 1;
+            if !same {
+                print!(rt; "differs: clash, recorded finished")?;
+            }
+            Ok(same)
+        }
+        End::Spent => {
+            print!(rt; "differs: spent")?;
+            Ok(false)
+        }
+        End::Refused(refusal) => {
+            print!(rt; "differs: refused {}", refusal.number())?;
+            Ok(false)
+        }
     }
 }
 
-// The budget, and the lists of run_lent, are those that every recorded run stays within.
+// The budget and the lists are those that every recorded run stays within.
 fn run(
+    rt: &HostRuntime,
     head: Head,
     book: &[u8],
-    types: &mut [u32],
-    edges: &mut [u32],
-    pairs: &mut [u32],
     edge_list: &[u8],
     pair_list: &[u8],
-) -> bool {
-    let end = saturate(book, 4000, &mut *types, &mut *edges, &mut *pairs);
-    agrees(head, end, edges, pairs, edge_list, pair_list)
-}
-
-fn run_lent(head: Head, book: &[u8], edge_list: &[u8], pair_list: &[u8]) -> bool {
+) -> std::io::Result<bool> {
     let mut types = [0u32; 8000];
     let mut edges = [0u32; 12000];
     let mut pairs = [0u32; 4000];
-    run(
-        head, book, &mut types, &mut edges, &mut pairs, edge_list, pair_list,
-    )
+    let end = saturate(book, 4000, &mut types, &mut edges, &mut pairs);
+    agrees(rt, head, end, &edges, &pairs, edge_list, pair_list)
 }
 
-fn run_front(head: Head, n: usize, room: &[u8], edge_list: &[u8], pair_list: &[u8]) -> bool
-    requires { n ≤ length room.now }
-{
-    run_lent(head, &room[..n], edge_list, pair_list)
-}
-
-fn cut() -> bool {
-    word(b"differs: the record is cut off, or too long");
-    false
-}
-
-fn take_lists(head: Head, edge_list: &mut [u8], pair_list: &mut [u8]) -> bool {
-    if !take(&mut *edge_list, 6 * (head.edges as usize)) {
-        return false;
+// Reads what stands behind the numbers, and runs it.
+fn take_and_run(
+    rt: &HostRuntime,
+    head: Head,
+    room: &mut [u8],
+    edge_list: &mut [u8],
+    pair_list: &mut [u8],
+) -> std::io::Result<bool> {
+    let n = usize::from(head.length);
+    if take(room, n)
+        && take(edge_list, 6 * usize::from(head.edges))
+        && take(pair_list, 4 * usize::from(head.pairs))
+    {
+        return run(rt, head, &room[..n], edge_list, pair_list);
     }
-    take(&mut *pair_list, 4 * (head.pairs as usize))
+    print!(rt; "differs: the record is cut off, or too long")?;
+    Ok(false)
 }
 
-fn take_and_run(head: Head, room: &mut [u8], edge_list: &mut [u8], pair_list: &mut [u8]) -> bool {
-    let n = head.length as usize;
-    if room.len() < n {
-        return cut();
-    }
-    if !fill(&mut *room, n) {
-        return cut();
-    }
-    if !take_lists(head, &mut *edge_list, &mut *pair_list) {
-        return cut();
-    }
-    run_front(head, n, room, edge_list, pair_list)
+fn replay(rt: &HostRuntime, head: Head) -> std::io::Result<bool> {
+    let mut room = [0u8; 65536];
+    let mut edge_list = [0u8; 65536];
+    let mut pair_list = [0u8; 65536];
+    take_and_run(rt, head, &mut room, &mut edge_list, &mut pair_list)
 }
 
-fn replay(head: Head) -> bool {
-    let mut room = io::large_buffer();
-    let mut edge_list = io::large_buffer();
-    let mut pair_list = io::large_buffer();
-    take_and_run(head, &mut room, &mut edge_list, &mut pair_list)
+// A record's line: whether it agrees.
+fn line(rt: &HostRuntime, n: u32, head: Head) -> std::io::Result<bool> {
+    print!(rt; "{n}: rule {}, ", head.rule)?;
+    let same = replay(rt, head)?;
+    println!(rt; "{}", if same { "agrees" } else { "" })?;
+    Ok(same)
 }
 
-// A record's line; 1 where it agrees, else 0.
-fn line(n: u32, head: Head) -> u32
-    ensures { result ≤ 1 }
-{
-    number(n as u64);
-    word(b": rule ");
-    number(head.rule as u64);
-    word(b", ");
-    if replay(head) {
-        word(b"agrees\n");
-        return 1;
-    }
-    word(b"\n");
-    0
-}
-
-fn sums(agree: u32, differ: u32) {
-    number(agree as u64);
-    word(b" agree, ");
-    number(differ as u64);
-    word(b" differ\n");
-}
-
-fn main() {
-    let mut n: u32 = 0;
+fn run_all(rt: &HostRuntime) -> std::io::Result<()> {
     let mut agree: u32 = 0;
-    while n < 100000 {
-        let next = next_head();
-        let Next::Record(head) = next else {
+    let mut differ: u32 = 0;
+    for n in 1..=100000u32 {
+        let Some(head) = next_head(rt)? else {
             break;
         };
-        n = n + 1;
-        agree = agree + line(n, head);
+        if line(rt, n, head)? {
+            agree += 1;
+        } else {
+            differ += 1;
+        }
     }
-    sums(agree, n - agree);
+    println!(rt; "{agree} agree, {differ} differ")
+}
+
+fn main(rt: HostRuntime) {
+    let _ = run_all(&rt);
 }

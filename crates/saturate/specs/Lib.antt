@@ -1,3 +1,2 @@
 -- What the program reads and prints.
-pub mod Input
 pub mod Output

@@ -2,3 +2,4 @@
 pub mod Told
 pub mod Run
 pub mod Part
+pub mod Lists

@@ -4,6 +4,7 @@
 pub mod allot;
 pub mod collect;
 pub mod enter;
+pub mod lists;
 pub mod part;
 pub mod run;
 pub mod saturate;

@@ -5,7 +5,7 @@ use mathlib.Core.Path.{◌≡◌, refl, sym, ap, ◌∙◌}
 use mathlib.Core.List.{List, [], ◌∷◌, ◌++◌, append_assoc, append-nil}
 use lib.ListN.{length, replicate, set, length-append}
 use borrow.Author.Tests.{eq-eqb, ne_eqb}
-use Rattle.small.specs.declared.laid.Laid.{Laid}
+use Rattle.small.specs.declared.laid.SmallBook.{SmallBook}
 use Rattle.book.specs.declared.statement.Statement.{Statement}
 use Rattle.book.specs.Bytes.{header_bytes, statement_bytes, statements_bytes}
 use Rattle.small.specs.Statements.{small_counts}
@@ -13,12 +13,12 @@ use Rattle.small.specs.Books.{atomic_bytes, book_of}
 use Rattle.small.specs.Laying.{laid, added, field_bytes}
 
 -- one run of bytes behind another is both as one
-pub added_append : (book : Laid) (l m : List ℕ) → added (added book l) m ≡ added book (l ++ m)
+pub added_append : (book : SmallBook) (l m : List ℕ) → added (added book l) m ≡ added book (l ++ m)
 unfolding added
 added_append book [] m = refl
 added_append book (b ∷ l) m = added_append (record { bytes = set book.bytes book.length b; length = book.length + 1 }) l m
 
-pub added_length : (book : Laid) (l : List ℕ) → (added book l).length ≡ book.length + length l
+pub added_length : (book : SmallBook) (l : List ℕ) → (added book l).length ≡ book.length + length l
 unfolding added
 added_length book [] = omega arith
 added_length book (b ∷ l) = added_length (record { bytes = set book.bytes book.length b; length = book.length + 1 }) l ∙ omega arith
@@ -41,7 +41,7 @@ unfolding added
 added_laid l [] h = rw append-nil refl
 added_laid l (b ∷ m) h =
     let more : length (l ++ (b ∷ [])) ≡ length l + 1 = length-append l (b ∷ []) in
-    ap (λ (k : Laid). added k m) (laid_push l b (omega arith)) ∙ added_laid (l ++ (b ∷ [])) m (omega arith) ∙ ap laid (append_assoc l (b ∷ []) m)
+    ap (λ (k : SmallBook). added k m) (laid_push l b (omega arith)) ∙ added_laid (l ++ (b ∷ [])) m (omega arith) ∙ ap laid (append_assoc l (b ∷ []) m)
 
 -- the field of the lowest bit: none where it is not set
 pub field_absent : (map values : ℕ) → map % 2 ≡ 0 → field_bytes 1 map values ≡ []
@@ -53,10 +53,10 @@ unfolding field_bytes
 field_present map values d = rw (ne_eqb _ _ d) refl
 
 -- what is left to do after k bits: the fields of the others, for which there is room
-abbrev pub Left : Laid → Laid → ℕ → ℕ → ℕ → Type 0
+abbrev pub Left : SmallBook → SmallBook → ℕ → ℕ → ℕ → Type 0
 Left whole book k map values = (added book (field_bytes (8 - k) map values) ≡ whole) × (book.length + length (field_bytes (8 - k) map values) ≤ 37)
 
-module _ (whole book : Laid) (k map values : ℕ) (more : k < 8) (left : Left whole book k map values) where
+module _ (whole book : SmallBook) (k map values : ℕ) (more : k < 8) (left : Left whole book k map values) where
   abbrev first : List ℕ
   first = field_bytes 1 map values
 

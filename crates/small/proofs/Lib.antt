@@ -2,7 +2,6 @@ pub mod Order
 pub mod Statements
 pub mod Laying
 pub mod Places
-pub mod Handing
 pub mod Read
 pub mod Listed
 pub mod Examples

@@ -3,14 +3,14 @@ use Rattle.std.specs.Prelude.{ℕ, zero, suc, ◌+◌, ◌*◌, ◌-◌, ◌/◌
 use Rattle.book.specs.Read.{pick}
 use Rattle.book.specs.declared.statement.Statement.{Statement}
 use Rattle.book.specs.Bytes.{Place, gap, put, map_of, form_of}
-use Rattle.small.specs.declared.laid.Laid.{Laid}
+use Rattle.small.specs.declared.laid.SmallBook.{SmallBook}
 
 -- a book by value: its bytes, and 0 behind them
-abbrev pub laid : List ℕ → Laid
+abbrev pub laid : List ℕ → SmallBook
 laid l = record { bytes = l ++ replicate (37 - length l) 0; length = length l }
 
 -- these bytes behind the others
-unfoldable pub added : Laid → List ℕ → Laid
+unfoldable pub added : SmallBook → List ℕ → SmallBook
 added book [] = book
 added book (b ∷ l) = added (record { bytes = set book.bytes book.length b; length = book.length + 1 }) l
 

@@ -1,7 +1,7 @@
 -- The statements of the small books: all that the tables of kinds and maps allow over one role, two individuals and one concept.
 use Rattle.std.specs.Prelude.{ℕ, zero, suc, ◌+◌, ◌*◌, ◌-◌, ◌/◌, ◌%◌, List, [], ◌∷◌, ◌++◌, length, get_or, eqb}
 use Rattle.book.specs.declared.header.Counts.{Counts}
-use Rattle.book.specs.declared.table.Start.{Start}
+use Rattle.book.specs.Table.{Start}
 use Rattle.book.specs.declared.statement.Statement.{Statement}
 use Rattle.book.specs.declared.statement.Axiom.TheVariants.{TransitiveRole}
 use Rattle.book.specs.declared.role.Role.TheVariants.{Named}

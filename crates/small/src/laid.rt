@@ -2,23 +2,21 @@
 ghost use Rattle.std.specs.Prelude.{◌≡◌, [], ◌∷◌, ◌<◌};
 ghost use Rattle.small.specs.Laying.{added};
 
-// The bytes so far, and 0 behind them.
+// Its bytes stand at the front, and 0 behind them.
 #[derive(Clone, Copy)]
-pub struct Laid {
+pub struct SmallBook {
     pub bytes: [u8; 37],
     pub length: usize,
 }
 
-// One byte more.
-pub fn push(book: Laid, b: u8) -> Laid
-    requires { book.length < 37 }
-    ensures { result ≡ added book (b ∷ []) }
-{
-    let mut bytes = book.bytes;
-    let at = book.length;
-    bytes[at] = b;
-    Laid {
-        bytes,
-        length: at + 1,
+impl SmallBook {
+    // One byte more.
+    #[tactic(auto, unfolding(crate::specs::Laying::added))]
+    pub(crate) fn push(&mut self, b: u8)
+        requires { self.old.length < 37 }
+        ensures { self.new ≡ added self.old (b ∷ []) }
+    {
+        self.bytes[self.length] = b;
+        self.length += 1;
     }
 }

@@ -1,36 +1,21 @@
 // The small book at a position, into lent bytes.
-ghost use Rattle.std.specs.Prelude.{◌≡◌, ◌++◌, ◌≤◌, length, take, drop};
+ghost use Rattle.std.specs.Prelude.{◌≡◌};
 ghost use Rattle.small.specs.Books.{small_books, entry_at};
 ghost use Rattle.small.specs.Answer.{length_of, lent_of};
 
-use super::small::{Found, small_book};
-
-// The first n bytes of a book, to the front of the lent ones.
-fn copy(bytes: &[u8], n: usize, out: &mut [u8])
-    requires { (n ≤ length bytes.now) × (n ≤ length out.old) }
-    ensures { out.new ≡ take n bytes.now ++ drop n out.old }
-{
-    let mut k: usize = 0;
-    while k < n {
-        out[k] = bytes[k];
-        k = k + 1;
-    }
-}
+use super::small::small_book;
 
 // The length of the book at a position, or 0 where there is none. The book is written if all of it fits.
 pub fn lend_book(position: u64, out: &mut [u8]) -> usize
     ensures value { result ≡ length_of (entry_at small_books position) }
     ensures out_after { out.new ≡ lent_of (entry_at small_books position) out.old }
 {
-    let answer = small_book(position);
-    let found = answer.found;
-    let Found::Book(n) = found else {
+    let Some(book) = small_book(position) else {
         return 0;
     };
-    if out.len() < n {
-        return n;
+    let n = book.length;
+    if n <= out.len() {
+        out[..n].copy_from_slice(&book.bytes[..n]);
     }
-    let bytes = answer.bytes;
-    copy(&bytes, n, out);
     n
 }

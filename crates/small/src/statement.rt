@@ -4,10 +4,10 @@ ghost use Rattle.book.specs.Bytes.{statement_bytes};
 ghost use Rattle.small.specs.Statements.{statement_at_lem};
 ghost use Rattle.small.specs.Laying.{added, field_bytes, row_of, row_bytes};
 
-use super::laid::{Laid, push};
+use super::laid::SmallBook;
 
 // A statement is a row of three bytes: its kind, its map, and its fields, which are 0 or 1, at the bits that the map has for them.
-const STATEMENTS: [u32; 73] = [
+static STATEMENTS: [u32; 73] = [
     0x013000, // SubClassOf
     0x023000, // EquivalentClasses
     0x033000, // DisjointClasses
@@ -31,43 +31,37 @@ const STATEMENTS: [u32; 73] = [
 ];
 
 // The field of the lowest bit, if it is set.
-fn put_field(book: Laid, map: u32, values: u32) -> Laid
-    requires { book.length + length (field_bytes 1 map values) ≤ 37 }
-    ensures { result ≡ added book (field_bytes 1 map values) }
+fn put_field(book: &mut SmallBook, map: u32, values: u32)
+    requires { book.old.length + length (field_bytes 1 map values) ≤ 37 }
+    ensures { book.new ≡ added book.old (field_bytes 1 map values) }
 {
-    if map % 2 == 0 {
-        return book;
+    if map % 2 != 0 {
+        book.push((values % 2) as u8);
+        book.push(0);
     }
-    push(push(book, (values % 2) as u8), 0)
 }
 
 // The fields of all bits, lowest first.
-fn put_fields(book: Laid, map: u32, values: u32) -> Laid
-    requires { book.length + length (field_bytes 8 map values) ≤ 37 }
-    ensures { result ≡ added book (field_bytes 8 map values) }
+fn put_fields(book: &mut SmallBook, map: u32, values: u32)
+    requires { book.old.length + length (field_bytes 8 map values) ≤ 37 }
+    ensures { book.new ≡ added book.old (field_bytes 8 map values) }
 {
-    let mut laid = book;
-    let mut bits = map;
-    let mut left = values;
-    let mut k: u32 = 0;
-    while k < 8 {
-        laid = put_field(laid, bits, left);
-        bits = bits / 2;
-        left = left / 2;
-        k = k + 1;
+    for bit in 0..8u32 {
+        put_field(book, map >> bit, values >> bit);
     }
-    laid
 }
 
 // The record of a row of the table; the high byte of its map is 0.
-fn put_row(book: Laid, row: u32) -> Laid
-    requires { book.length + length (row_bytes row) ≤ 37 }
-    ensures { result ≡ added book (row_bytes row) }
+fn put_row(book: &mut SmallBook, row: u32)
+    requires { book.old.length + length (row_bytes row) ≤ 37 }
+    ensures { book.new ≡ added book.old (row_bytes row) }
 {
     let kind = row / 65536 % 256;
     let map = row / 256 % 256;
-    let start = push(push(push(book, kind as u8), map as u8), 0);
-    put_fields(start, map, row % 256)
+    book.push(kind as u8);
+    book.push(map as u8);
+    book.push(0);
+    put_fields(book, map, row % 256);
 }
 
 // The row of statement i.
@@ -75,14 +69,13 @@ fn row_at(i: usize) -> u32
     requires { i < 73 }
     ensures { result ≡ row_of (statement_at_lem i) }
 {
-    let rows = STATEMENTS;
-    rows[i]
+    STATEMENTS[i]
 }
 
 // Statement i behind the bytes so far.
-pub fn put_statement(book: Laid, i: usize) -> Laid
-    requires { (i < 73) × (book.length + 11 ≤ 37) }
-    ensures { result ≡ added book (statement_bytes (statement_at_lem i)) }
+pub fn put_statement(book: &mut SmallBook, i: usize)
+    requires { (i < 73) × (book.old.length + 11 ≤ 37) }
+    ensures { book.new ≡ added book.old (statement_bytes (statement_at_lem i)) }
 {
-    put_row(book, row_at(i))
+    put_row(book, row_at(i));
 }

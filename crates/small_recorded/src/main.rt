@@ -6,12 +6,11 @@
 ghost use Rattle.std.specs.Prelude.{◌+◌, ◌*◌, ◌≤◌, length};
 
 use saturation::saturate::saturate;
-use small::small::{Found, small_book};
+use small::small::small_book;
+use std::io::Print;
 use verdict::end::End;
 
 const STDIN_FILENO: i32 = 0;
-
-const STDOUT_FILENO: i32 = 1;
 
 // No answer of a record: the run was spent or refused, or listed what no small book can have.
 const WRONG: u8 = 0xFF;
@@ -19,29 +18,15 @@ const WRONG: u8 = 0xFF;
 // A clash, in a record and here.
 const CLASH: u8 = 0x80;
 
-fn word(text: &[u8]) {
-    io::write_all(STDOUT_FILENO, text);
-}
-
-fn number(n: u64) {
-    io::print_decimal(STDOUT_FILENO, n);
-}
-
 // The bit of an edge of role 0.
 fn edge_bit(role: u32, first: u32, second: u32) -> u8 {
-    if role != 0 {
-        return WRONG;
+    match (role, first, second) {
+        (0, 0, 0) => 0x01,
+        (0, 0, _) => 0x02,
+        (0, _, 0) => 0x04,
+        (0, _, _) => 0x08,
+        _ => WRONG,
     }
-    if first == 0 {
-        if second == 0 {
-            return 0x01;
-        }
-        return 0x02;
-    }
-    if second == 0 {
-        return 0x04;
-    }
-    0x08
 }
 
 // One bit more; edges ascend, and so do their bits.
@@ -63,27 +48,19 @@ fn edge_at(edges: &[u32], i: usize) -> u8
 fn edge_bits(edges: &[u32], count: usize) -> u8
     requires { 3 * count ≤ length edges.now }
 {
-    let mut bits: u8 = 0;
-    let mut i: usize = 0;
-    while i < count {
+    let mut bits = 0;
+    for i in 0..count {
         bits = joined(bits, edge_at(edges, i));
-        i = i + 1;
     }
     bits
 }
 
 fn pair_bit(count: u32, lower: u32, higher: u32) -> u8 {
-    if count == 0 {
-        return 0;
+    match (count, lower, higher) {
+        (0, _, _) => 0,
+        (1, 0, 1) => 0x10,
+        _ => WRONG,
     }
-    if count == 1 {
-        if lower == 0 {
-            if higher == 1 {
-                return 0x10;
-            }
-        }
-    }
-    WRONG
 }
 
 fn type_bits(count: u32) -> u8 {
@@ -120,19 +97,6 @@ fn run(book: &[u8]) -> u8 {
     answer(end, &edges, pairs[0], pairs[1])
 }
 
-fn run_front(bytes: &[u8], n: usize) -> u8
-    requires { n ≤ length bytes.now }
-{
-    run(&bytes[..n])
-}
-
-fn run_book(bytes: &[u8], n: usize) -> u8 {
-    if bytes.len() < n {
-        return WRONG;
-    }
-    run_front(bytes, n)
-}
-
 // By rule 2 ours clashes or has what the record has; by rule 1 it is the same; rule 0 says that there is no answer to compare.
 fn agrees(rule: u8, recorded: u8, ours: u8) -> bool {
     if ours == WRONG {
@@ -151,132 +115,95 @@ fn agrees(rule: u8, recorded: u8, ours: u8) -> bool {
 }
 
 // Whether ours agrees with the record; where not, it is said.
-fn compared(position: u64, rule: u8, recorded: u8, ours: u8) -> bool {
-    if agrees(rule, recorded, ours) {
-        return true;
+fn compared(
+    rt: &HostRuntime,
+    position: u64,
+    rule: u8,
+    recorded: u8,
+    ours: u8,
+) -> std::io::Result<bool> {
+    let same = agrees(rule, recorded, ours);
+    if !same {
+        println!(rt; "differs: book {position}, recorded {recorded}, ours {ours}")?;
     }
-    word(b"differs: book ");
-    number(position);
-    word(b", recorded ");
-    number(recorded as u64);
-    word(b", ours ");
-    number(ours as u64);
-    word(b"\n");
-    false
+    Ok(same)
 }
 
-// The same for the record at a place; it may be missing.
-fn compared_at(records: &[u8], at: usize, position: u64, ours: u8) -> bool {
-    if records.len() < 2 {
-        return false;
-    }
-    if records.len() - 2 < at {
-        return false;
-    }
-    compared(position, records[at], records[at + 1], ours)
-}
-
-#[derive(Clone, Copy)]
-enum Step {
-    Compared(bool),
-    End,
-}
-
-// The book at a position, if there is one, and its record.
-fn compare_book(records: &[u8], position: u64) -> Step
+// The book at a position, if there is one, against its record; the record may be missing.
+fn compare_book(rt: &HostRuntime, records: &[u8], position: u64) -> std::io::Result<Option<bool>>
     requires { position ≤ 30000 }
 {
-    let book = small_book(position);
-    let found = book.found;
-    let Found::Book(n) = found else {
-        return Step::End;
+    let Some(book) = small_book(position) else {
+        return Ok(None);
     };
-    let bytes = book.bytes;
-    let ours = run_book(&bytes, n);
-    Step::Compared(compared_at(records, 2 * (position as usize), position, ours))
+    let ours = if book.length <= book.bytes.len() {
+        run(&book.bytes[..book.length])
+    } else {
+        WRONG
+    };
+    let at = 2 * (position as usize);
+    if records.len() < at + 2 {
+        return Ok(Some(false));
+    }
+    Ok(Some(compared(rt, position, records[at], records[at + 1], ours)?))
 }
 
 // Whether there is no book at a position.
-fn none_at(position: u64) {
-    let book = small_book(position);
-    let found = book.found;
-    match found {
-        Found::Book(_) => word(b"differs: a book at "),
-        Found::None => word(b"none at "),
+fn none_at(rt: &HostRuntime, position: u64) -> std::io::Result<()> {
+    match small_book(position) {
+        Some(_) => println!(rt; "differs: a book at {position}"),
+        None => println!(rt; "none at {position}"),
     }
-    number(position);
-    word(b"\n");
 }
 
-fn one_if(same: bool) -> u64
-    ensures { result ≤ 1 }
-{
-    if same {
-        return 1;
-    }
-    0
-}
-
-// How many records have no answer.
-fn unanswered(records: &[u8]) -> u64 {
-    let mut count: u64 = 0;
-    for i in 0..records.len() {
-        if i % 2 == 0 {
-            if records[i] == 0 {
-                count = more(count);
-            }
-        }
-    }
-    count
-}
-
-fn more(n: u64) -> u64 {
-    if n < 30000 {
-        return n + 1;
-    }
-    n
+// How many records have no answer; no more than 30,000 are told.
+fn unanswered(records: &[u8]) -> usize {
+    records
+        .iter()
+        .step_by(2)
+        .filter(|rule| **rule == 0)
+        .count()
+        .min(30000)
 }
 
 // What was compared; there is one record for each book, and none is left over.
-fn sums(books: u64, agree: u64, records: &[u8])
+fn sums(rt: &HostRuntime, books: u64, agree: u64, records: &[u8]) -> std::io::Result<()>
     requires { (agree ≤ books) × (books ≤ 30000) }
 {
-    number(agree);
-    word(b" agree, ");
-    number(books - agree);
-    word(b" differ; ");
-    number(unanswered(records));
-    word(b" of them with a kind that the Rust has not\n");
+    let differ = books - agree;
+    let without = unanswered(records);
+    println!(rt;
+        "{agree} agree, {differ} differ; {without} of them with a kind that the Rust has not"
+    )?;
     if records.len() as u64 != 2 * books {
-        word(b"differs: there is not one record for each book\n");
+        println!(rt; "differs: there is not one record for each book")?;
     }
-    none_at(books);
+    none_at(rt, books)
 }
 
-fn compare_all(records: &[u8]) {
-    let mut position: u64 = 0;
-    let mut agree: u64 = 0;
-    while position < 30000 {
-        let next = compare_book(records, position);
-        let Step::Compared(same) = next else {
+fn compare_all(rt: &HostRuntime, records: &[u8]) -> std::io::Result<()> {
+    let mut books = 0;
+    let mut agree = 0;
+    for position in 0..30000u64 {
+        let Some(same) = compare_book(rt, records, position)? else {
             break;
         };
-        agree = agree + one_if(same);
-        position = position + 1;
+        books += 1;
+        if same {
+            agree += 1;
+        }
     }
-    sums(position, agree, records);
+    sums(rt, books, agree, records)
 }
 
-fn compare_front(records: &[u8], n: usize)
-    requires { n ≤ length records.now }
-{
-    compare_all(&records[..n])
-}
-
-fn main() {
-    let mut room = io::large_buffer();
+fn run_all(rt: &HostRuntime) -> std::io::Result<()> {
+    let mut room = [0u8; 65536];
     let got = io::read_full(STDIN_FILENO, &mut room);
-    compare_front(&room, got);
-    none_at(4294967296);
-    none_at(18446744073709551615);
+    compare_all(rt, &room[..got])?;
+    none_at(rt, 4294967296)?;
+    none_at(rt, 18446744073709551615)
+}
+
+fn main(rt: HostRuntime) {
+    let _ = run_all(&rt);
 }

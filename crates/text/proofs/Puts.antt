@@ -2,20 +2,28 @@
 use Prim.Native.Nat.{ℕ, zero, suc, ◌+◌, ◌-◌, ◌/◌, ◌%◌, ◌≤◌, ◌<◌}
 use native.Mathlib.Numerals.{add-one}
 use native.Mathlib.Omega.{arith}
-use mathlib.Core.Path.{◌≡◌, refl, sym}
+use mathlib.Core.Path.{◌≡◌, refl}
 use mathlib.Core.List.{List, [], ◌∷◌}
-use lib.ListN.{length, get_or, take}
-use lib.Seq.{take-suc}
+use lib.ListN.{length, length-take, length-drop}
+use borrow.Rule.Slice.PartMut.{put_mid, same_len_mid}
+use Rattle.std.proofs.lemmas.Slice.{take-put_mid, drop-put_mid}
 use borrow.Author.Tests.{lt-ltb, le-ltb}
 use Rattle.rules.specs.Lists.{gather}
 use Rattle.verdict.specs.Listing.{Written}
 use Rattle.verdict.proofs.list.Writing.{written_none, written_then, written_as}
 use Rattle.text.specs.Text.{decimal}
 
--- one byte more of a word
-pub word_more : (word : List ℕ) (i : ℕ) {o m n : List ℕ} {at here next : ℕ} → i < length word → Written o at (take i word) m here → Written m here (get_or word i 0 ∷ []) n next
-    → Written o at (take (i + 1) word) n next
-word_more word i h w v = written_as (rw add-one (sym (take-suc word i 0 h))) (written_then w v)
+-- a word in the place of as many bytes
+pub word_put : (o word w : List ℕ) (at : ℕ) → at + length word ≤ length o → w ≡ word → Written o at word (put_mid at (at + length word - at) o w) (at + length word)
+word_put o word w at h e =
+    let k : at + length word - at ≡ length word = omega arith in
+    rw (e, k)
+    record {
+      len = same_len_mid at (length word) o word (simp (length-take, length-drop) (omega arith));
+      behind = refl;
+      front = take-put_mid at (length word) o word (at + length word) refl (omega arith);
+      rest = drop-put_mid at (length word) o word (at + length word) (omega arith) (omega arith) refl;
+    }
 
 -- one part more of several
 pub gather_more : (f : ℕ → List ℕ) (i : ℕ) {o m n : List ℕ} {at here next : ℕ} → Written o at (gather i f) m here → Written m here (f i) n next → Written o at (gather (i + 1) f) n next

@@ -11,8 +11,8 @@ fn put_numbers(out: &mut [u8], at: usize, list: &[u32]) -> usize
     ensures upper_bound { result ≤ at + 11 * length list.now }
 {
     let mut here = at;
-    for i in 0..list.len() {
-        here = put_number(out, here, list[i]);
+    for n in list {
+        here = put_number(out, here, *n);
     }
     here
 }

@@ -19,7 +19,7 @@ fn digit(n: u32) -> u8
     48 + (n as u8)
 }
 
-// The digits of n, at most k of them.
+// The digits of n, at most k of them. Kept by hand: the theorem on the text names each digit, and std's Display ensures nothing that a proof can use.
 fn put_digits(out: &mut [u8], at: usize, n: u32, k: u32) -> usize
     requires { at + k ≤ length out.old }
     ensures written { Written out.old at (decimal k n) out.new result }
@@ -50,9 +50,7 @@ pub(crate) fn put_word(out: &mut [u8], at: usize, word: &[u8]) -> usize
     ensures written { Written out.old at word.now out.new result }
     ensures value { result ≡ at + length word.now }
 {
-    let mut here = at;
-    for i in 0..word.len() {
-        here = put_byte(out, here, word[i]);
-    }
-    here
+    let end = at + word.len();
+    out[at..end].copy_from_slice(word);
+    end
 }

@@ -17,7 +17,7 @@ fn put_end(out: &mut [u8], at: usize, end: End) -> usize
         End::Finished(t, e, p) => put_line(out, at, b"finished", &[t, e, p]),
         End::Clash(t, e) => put_line(out, at, b"clash", &[t, e]),
         End::Spent => put_line(out, at, b"spent", &[]),
-        End::Refused(n) => put_line(out, at, b"refused", &[n as u32]),
+        End::Refused(refusal) => put_line(out, at, b"refused", &[u32::from(refusal.number())]),
     }
 }
 
@@ -27,9 +27,7 @@ fn type_entries(end: End) -> usize
 {
     match end {
         End::Finished(t, _, _) => 2 * (t as usize),
-        End::Clash(_, _) => 0,
-        End::Spent => 0,
-        End::Refused(_) => 0,
+        _ => 0,
     }
 }
 

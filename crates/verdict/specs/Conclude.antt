@@ -1,6 +1,7 @@
 -- How complete tables end: the outcome that is read off them, and the outcome that an answer and three lists are.
 use Rattle.std.specs.Prelude.{ℕ, ◌*◌, Bool, ◌||◌, ◌&&◌, List, length, get_or, ltb, eqb}
 use Rattle.book.specs.Read.{pick}
+use Rattle.book.specs.Refusal.{number}
 use Rattle.rows.specs.declared.table.Size.{Size}
 use Rattle.rules.specs.Fact.{Two, two}
 use Rattle.rules.specs.Lists.{gather, only, entries2, entries3, filled}
@@ -16,7 +17,7 @@ abbrev pub end_of : Answer → End
 end_of (finished t e p) = Finished t e p
 end_of (clash t e) = Clash t e
 end_of spent = Spent
-end_of (refused n) = Refused n
+end_of (refused n) = Refused (number n)
 
 -- what a run came to: its answer, and the type, edge and pair list at exit
 abbrev pub came : Answer → List ℕ → List ℕ → List ℕ → Outcome

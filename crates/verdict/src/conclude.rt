@@ -12,6 +12,7 @@ ghost use Rattle.verdict.specs.Conclude.{came, finishing, concluded};
 use super::end::End;
 use super::list::{clear, count_pairs, list_edges, list_pairs, list_types};
 use super::verdict::clash;
+use book::refusal::Refusal;
 use rows::table::Size;
 use said::layout::{Layout, Relation, part_of};
 
@@ -48,7 +49,7 @@ fn finish(
     let same = count_pairs(groups, labels, size.individuals);
     if pairs.len() < 2 * same {
         clear_all(types, edges, pairs);
-        return End::Refused(11);
+        return End::Refused(Refusal::ShortPairList);
     }
     list_edges(edges, t, size);
     list_pairs(pairs, groups, labels, size.individuals);
@@ -61,10 +62,7 @@ fn clashing(t: &[u64], layout: Layout, says: &[u64], leaves: &[u32], denied: boo
     requires placed { Placed layout × (total_rows layout * 8 ≤ length says.now) × (layout.concepts ≤ length leaves.now) }
     ensures { result ≡ (clash_in layout t.now says.now leaves.now || denied) }
 {
-    if denied {
-        return true;
-    }
-    clash(t, layout, says, leaves)
+    denied || clash(t, layout, says, leaves)
 }
 
 pub fn conclude(

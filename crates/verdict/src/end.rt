@@ -1,10 +1,12 @@
 // How a run ends.
 
-// Finished with its type, edge and pair counts; clash with its type and edge counts; spent; refused by number.
-#[derive(Clone, Copy)]
+use book::refusal::Refusal;
+
+// Finished with its type, edge and pair counts; clash with its type and edge counts; spent; refused, and why.
+#[derive(Clone, Copy, Debug, PartialEq, Eq)]
 pub enum End {
     Finished(u32, u32, u32),
     Clash(u32, u32),
     Spent,
-    Refused(u8),
+    Refused(Refusal),
 }

@@ -5,7 +5,8 @@ ghost use Rattle.tables.specs.Tables.{Labelled};
 ghost use Rattle.rules.specs.Lists.{entries2, entries3, filled};
 ghost use Rattle.verdict.specs.Listing.{row_of, word_of, behind_of, pairs_of_lem, types_of, edges_word, edges_from, edges_of_lem, all_edges_lem, Written};
 
-use rows::row::{first as lowest, next};
+use rows::bits::Bits;
+use rows::members::Members;
 use rows::table::{Size, row_of};
 use tables::size::type_field;
 
@@ -14,23 +15,17 @@ pub fn clear(list: &mut [u32], from: usize)
     requires { from ≤ length list.old }
     ensures { list.new ≡ take from list.old ++ replicate (length list.old - from) 0 }
 {
-    let mut i = from;
-    while i < list.len() {
-        list[i] = 0;
-        i += 1;
-    }
+    list[from..].fill(0);
 }
 
 // How many members below n, behind `first`, row k has.
 fn count_behind(t: &[u64], k: usize, first: usize, n: usize, count: usize) -> usize
-    requires { (k * 512 + n ≤ length t.now * 64) × (n ≤ 512) × (first < 512) × (count ≤ 262144) }
+    requires { (k * 512 + n ≤ length t.now * 64) × (n ≤ 512) × (first < n) × (count ≤ 262144) }
     ensures { result ≡ count + length (behind_of first t.now k n) }
 {
     let mut i = count;
-    let mut b = next(t, k, first + 1, n);
-    while b < n {
+    for _b in Members::from(t, k, first + 1, n) {
         i += 1;
-        b = next(t, k, b + 1, n);
     }
     i
 }
@@ -69,16 +64,13 @@ fn list_word(
     requires n_in_bounds_2 { at + 2 * length (word_of first t.now k from n) ≤ length list.old }
     ensures { Written list.old at (entries2 (word_of first t.now k from n)) list.new result }
 {
-    let mut y = t[k * 8 + from / 64];
     let mut i = at;
-    while y != 0 {
-        let b = from + lowest(y);
-        if b >= n {
+    for j in Bits::of(t[k * 8 + from / 64]) {
+        if from + j >= n {
             return i;
         }
-        put_two(list, i, first, b);
+        put_two(list, i, first, from + j);
         i += 2;
-        y = y & (y - 1);
     }
     i
 }
@@ -90,10 +82,8 @@ fn list_row(list: &mut [u32], at: usize, first: usize, t: &[u64], k: usize, n: u
     ensures { Written list.old at (entries2 (row_of first t.now k n)) list.new result }
 {
     let mut i = at;
-    let mut w = 0;
-    while w < n {
-        i = list_word(list, i, first, t, k, w, n);
-        w += 64;
+    for w in 0..n.div_ceil(64) {
+        i = list_word(list, i, first, t, k, w * 64, n);
     }
     i
 }
@@ -143,16 +133,13 @@ fn list_edges_word(
     requires n_in_bounds_2 { at + 3 * length (edges_word role first t.now k from n) ≤ length list.old }
     ensures { Written list.old at (entries3 (edges_word role first t.now k from n)) list.new result }
 {
-    let mut y = t[k * 8 + from / 64];
     let mut i = at;
-    while y != 0 {
-        let b = from + lowest(y);
-        if b >= n {
+    for j in Bits::of(t[k * 8 + from / 64]) {
+        if from + j >= n {
             return i;
         }
-        put_three(list, i, role, first, b);
+        put_three(list, i, role, first, from + j);
         i += 3;
-        y = y & (y - 1);
     }
     i
 }
@@ -174,10 +161,8 @@ fn list_edges_from(
     let k = row_of(size, 2 * role, first);
     let n = size.individuals;
     let mut i = at;
-    let mut w = 0;
-    while w < n {
-        i = list_edges_word(list, i, role, first, t, k, w, n);
-        w += 64;
+    for w in 0..n.div_ceil(64) {
+        i = list_edges_word(list, i, role, first, t, k, w * 64, n);
     }
     i
 }
@@ -189,10 +174,8 @@ fn list_edges_of(list: &mut [u32], at: usize, role: usize, t: &[u64], size: Size
     ensures { Written list.old at (entries3 (edges_of_lem size t.now role)) list.new result }
 {
     let mut i = at;
-    let mut a = next(t, 2 * role, 0, size.individuals);
-    while a < size.individuals {
+    for a in Members::of(t, 2 * role, size.individuals) {
         i = list_edges_from(list, i, role, a, t, size);
-        a = next(t, 2 * role, a + 1, size.individuals);
     }
     i
 }
@@ -212,16 +195,14 @@ pub(crate) fn list_edges(list: &mut [u32], t: &[u64], size: Size)
 
 // A row of two entries for each member below n, behind `first`, of row k, with `first` in front.
 fn list_behind(list: &mut [u32], at: usize, first: usize, t: &[u64], k: usize, n: usize) -> usize
-    requires n_in_bounds { (k * 512 + n ≤ length t.now * 64) × (n ≤ 512) × (first < 512) }
+    requires n_in_bounds { (k * 512 + n ≤ length t.now * 64) × (n ≤ 512) × (first < n) }
     requires n_in_bounds_2 { at + 2 * length (behind_of first t.now k n) ≤ length list.old }
     ensures { Written list.old at (entries2 (behind_of first t.now k n)) list.new result }
 {
     let mut i = at;
-    let mut b = next(t, k, first + 1, n);
-    while b < n {
+    for b in Members::from(t, k, first + 1, n) {
         put_two(list, i, first, b);
         i += 2;
-        b = next(t, k, b + 1, n);
     }
     i
 }

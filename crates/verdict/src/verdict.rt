@@ -6,7 +6,8 @@ ghost use Rattle.rules.specs.Rule.{any};
 ghost use Rattle.said.specs.Layout.{Placed, total_rows};
 ghost use Rattle.verdict.specs.Verdict.{meeting, counting, row_clash_lem, rows_clash_lem, marker_for, marker_row, clash_in, RowsWith};
 
-use rows::row::{compose, gather, meets, member, next};
+use rows::members::Members;
+use rows::row::{compose, gather, meets, member};
 use rows::table::{Size, rows_of};
 use said::layout::{Layout, Relation, part_of};
 use tables::leaf::{filler_in, is_marker, role_in};
@@ -16,10 +17,7 @@ use tables::size::class_field;
 fn may_clash(own: bool, c: usize, d: usize) -> bool
     ensures { result ≡ counting own c d }
 {
-    if own {
-        return true;
-    }
-    c != d
+    own || c != d
 }
 
 // Whether the row mask meets that of d, if c and d count. Of a class, the row is the one of its number from `base` on.
@@ -27,10 +25,7 @@ fn rows_meet(mask: &[u64], s: &[u64], base: usize, n: usize, own: bool, c: usize
     requires { (8 ≤ length mask.now) × ((base + d) * 8 + 8 ≤ length s.now) × (n ≤ 512) }
     ensures { result ≡ (counting own c d && meeting n (has mask.now 0) (has s.now (base + d))) }
 {
-    if may_clash(own, c, d) {
-        return meets(mask, s, base + d, n);
-    }
-    false
+    may_clash(own, c, d) && meets(mask, s, base + d, n)
 }
 
 // Whether the row mask meets that of a class that is disjoint from c.
@@ -47,12 +42,10 @@ fn mask_clash(
     requires c_lt_classes { c < size.classes }
     ensures { result ≡ any size.classes (λ d. has disjoint.now c d && (counting own c d && meeting size.individuals (has mask.now 0) (has s.now (base + d)))) }
 {
-    let mut d = next(disjoint, c, 0, size.classes);
-    while d < size.classes {
+    for d in Members::of(disjoint, c, size.classes) {
         if rows_meet(mask, s, base, size.individuals, own, c, d) {
             return true;
         }
-        d = next(disjoint, c, d + 1, size.classes);
     }
     false
 }
@@ -170,10 +163,7 @@ fn named_clash(
     requires r_bound { 2 * r + 2 < size.fields }
     ensures { result ≡ (has functional.now 0 (2 * r) && rows_clash_lem size.individuals size.classes disjoint.now false (marker_row size t.now takers.now leaves.now n r size.classes)) }
 {
-    if member(functional, 0, 2 * r) {
-        return role_clash(t, size, takers, leaves, n, disjoint, r);
-    }
-    false
+    member(functional, 0, 2 * r) && role_clash(t, size, takers, leaves, n, disjoint, r)
 }
 
 // Whether the markers of a role that is functional as named clash.

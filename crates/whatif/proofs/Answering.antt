@@ -1,4 +1,5 @@
 -- The answer is the effect.
+use Rattle.std.specs.Prelude.{None}
 use Prim.Native.Nat.{ℕ, zero, suc, ◌-◌, ◌*◌, ◌<◌, ◌≤◌}
 use native.Mathlib.Decide.{dec_lt}
 use native.Mathlib.Omega.{arith}
@@ -45,7 +46,7 @@ use Rattle.effect.proofs.Kept.{conclusions_more}
 use Rattle.effect.proofs.Difference.{difference_same, difference_news}
 use Rattle.effect.proofs.Copied.{copied_is}
 use Rattle.rules.proofs.Engine.{run_closed, run_used}
-use Rattle.rules.proofs.Tests.{false_true, every_append}
+use Rattle.rules.proofs.Tests.{every_append}
 use Rattle.saturation.proofs.Entering.{bodies_append}
 use Rattle.whatif.specs.Minus.{minus, Filled, same2, same3, lessened}
 use Rattle.whatif.specs.Begun.{with_read, Finishes}
@@ -289,10 +290,10 @@ module _ {s : List ℕ} {h : Counts} {offsets : List ℕ} (o : Open s h offsets)
 
 -- no reader and no day
 abbrev pub nobody : Names
-nobody = record { named = false; reader = 0; dated = false; day = 0 }
+nobody = record { reader = None; day = None }
 
 pub present_run : {s : List ℕ} {h : Counts} {offsets : List ℕ} → Open s h offsets → {budget : ℕ} {ts es : List ℕ} (ps : List ℕ) → Admitted budget ts es → outcome_on (heard_book anyone s) budget ts es ps ≡ outcome s budget ts es ps
-present_run {s} o {budget} {ts} {es} ps a = heard_outcome nobody [] (λ e. false_true e) ps a o ∙ outcome_all s budget ts es ps
+present_run {s} o {budget} {ts} {es} ps a = heard_outcome nobody (λ r e. absurd (let k : ◌≡◌ {A = ℕ} 0 1 = cc in omega arith)) ps a o ∙ outcome_all s budget ts es ps
 
 -- the present facts are those of the present run
 pub present_finished : {s : List ℕ} {h : Counts} {offsets : List ℕ} → Open s h offsets → {budget : ℕ} {ts es : List ℕ} (ps : List ℕ) → Admitted budget ts es → Finishes (outcome_on (heard_book anyone s) budget ts es ps).end

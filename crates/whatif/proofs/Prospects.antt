@@ -33,26 +33,27 @@ use Rattle.verdict.specs.Conclude.{end_of, came}
 use Rattle.saturation.specs.Run.{heard, heard_book, outcome_on, Admitted, Drawn, Worked}
 use Rattle.saturation.proofs.run.Closing.{heard_within, heard_inside}
 use Rattle.effect.specs.Copy.{copied, one_record, larger, with_record}
-use Rattle.effect.specs.Effect.{had, difference, news, by_itself, followed, on_finished, effect}
+use Rattle.effect.specs.Effect.{Effect, had, difference, news, by_itself, followed, on_finished, effect}
 use Rattle.effect.proofs.Copied.{copied_is}
 use Rattle.whatif.specs.Minus.{Filled, lessened}
 use Rattle.whatif.specs.Further.{Ongoing}
 use Rattle.whatif.specs.Begun.{with_read, Finishes, Begun}
-use Rattle.whatif.specs.Answer.{gave, effect_by, stayed}
-use Rattle.whatif.specs.declared.answer.Step.{Step}
-use Rattle.whatif.specs.declared.answer.Step.TheVariants.{Alone, Refused as refuse, Go}
-use Rattle.whatif.specs.declared.answer.Further.TheVariants as further
+use Rattle.whatif.specs.Answer.{gave, effect_by, stayed, prospect}
+use Rattle.std.specs.Prelude.{Option, Some, None, Result, Ok, Err, IsErrAnd}
+use Rattle.book.specs.Refusal.{number}
+use Rattle.book.specs.declared.refusal.Refusal.{Refusal}
+use Rattle.whatif.specs.declared.answer.Prospect.{Prospect}
 use Rattle.whatif.proofs.Answering.{on_finished_lem, on_other, filled_by, finished_few, copy_run, copy_difference, still_difference, present_finished}
 
 module _ {s : List ℕ} {h : Counts} {offsets : List ℕ} (o : Open s h offsets) (read : Read Statement) {budget : ℕ} {ts es : List ℕ} (ps : List ℕ) (a : Admitted budget ts es) (us fs qs : List ℕ)
-    (first : Answer) (ts' es' ps' : List ℕ) (ran : came first ts' es' ps' ≡ outcome_on (heard_book anyone s) budget ts es ps) {step : Step} (begun : Begun (end_of first) h.statements budget read (length fs) (length us) step) where
+    (first : Answer) (ts' es' ps' : List ℕ) (ran : came first ts' es' ps' ≡ outcome_on (heard_book anyone s) budget ts es ps) {step : Option (Result Statement Refusal)} (begun : Begun (end_of first) h.statements budget read (length fs) (length us) step) where
   abbrev O : Outcome
   O = outcome_on (heard_book anyone s) budget ts es ps
 
   end_is : end_of first ≡ (outcome_on (heard_book anyone s) budget ts es ps).end
   end_is = ap (λ (x : Outcome). x.end) ran
 
-  pub answer_alone : step ≡ Alone → gave (record { present = first; copy = further.Alone }) ts' es' ps' us fs qs ≡ effect_by (outcome_on (heard_book anyone s) budget ts es ps) (with_read (book_of s) read) (conclusions (book_of s)) budget us fs qs
+  pub answer_alone : step ≡ None → gave (record { present = first; copy = None }) ts' es' ps' us fs qs ≡ effect_by (outcome_on (heard_book anyone s) budget ts es ps) (with_read (book_of s) read) (conclusions (book_of s)) budget us fs qs
   answer_alone q =
       ap (λ (x : Outcome). by_itself x us fs qs) ran
       ∙ sym (on_other O.end (by_itself O us fs qs) (followed O (difference (with_read (book_of s) read) (conclusions (book_of s)) budget us fs qs)) (λ f. begun.alone q (f.0, f.1, f.2, end_is ∙ f.3)))
@@ -66,13 +67,13 @@ module _ {s : List ℕ} {h : Counts} {offsets : List ℕ} (o : Open s h offsets)
       ap (λ (x : Outcome). followed x c) ran
       ∙ (ap (followed O) (sym e) ∙ sym (on_finished_lem O.end (by_itself O us fs qs) (followed O (difference (with_read (book_of s) read) (conclusions (book_of s)) budget us fs qs)) (finishes f)))
 
-  pub answer_refused : (k : ℕ) → step ≡ refuse k → gave (record { present = first; copy = further.Ended (answer.Refused k) }) ts' es' ps' us fs qs ≡ effect_by (outcome_on (heard_book anyone s) budget ts es ps) (with_read (book_of s) read) (conclusions (book_of s)) budget us fs qs
+  pub answer_refused : (k : Refusal) → step ≡ Some (Err k) → gave (record { present = first; copy = Some (answer.Refused k) }) ts' es' ps' us fs qs ≡ effect_by (outcome_on (heard_book anyone s) budget ts es ps) (with_read (book_of s) read) (conclusions (book_of s)) budget us fs qs
   unfolding difference
   answer_refused k q =
       let b = begun.refused k q in
-      follows (untouched us fs qs (Refused k)) b.0 (b.1 (book_of s) us fs qs (λ B. ends_with B (conclusions B) budget us fs qs (news us fs qs B (conclusions B) (conclusions (book_of s)))) (ap (λ (g : Counts). g.statements) o.counts) refl refl)
+      follows (untouched us fs qs (Refused (number k))) b.0 (b.1 (book_of s) us fs qs (λ B. ends_with B (conclusions B) budget us fs qs (news us fs qs B (conclusions B) (conclusions (book_of s)))) (ap (λ (g : Counts). g.statements) o.counts) refl refl)
 
-  module _ (y : Statement) (q : step ≡ Go y) where
+  module _ (y : Statement) (q : step ≡ Some (Ok y)) where
     goes : Finishes (end_of first) × (3 * budget ≤ length fs) × (2 * budget ≤ length us) × (h.statements < 4096) × ((next : ℕ) × (read ≡ value y next))
     goes = begun.goes y q
 
@@ -109,12 +110,12 @@ module _ {s : List ℕ} {h : Counts} {offsets : List ℕ} (o : Open s h offsets)
       module _ {from : ℕ} {S L C K t S' K' t' : List ℕ} {used taken u : ℕ} {denies denied moved : Bool} (on : Ongoing s h from (heard anyone s) budget L S C K t used taken denies)
           (now : Drawn h (book_with s (heard anyone s ++ (y ∷ []))) budget S' L K' t' u denied) (still : moved ≡ false → (u ≡ used) × (held (size_of h) K' t' ≡ held (size_of h) K t)) where
         pub answer_either : (rest : Answer) (us'' fs'' qs'' : List ℕ)
-            → (moved ≡ true → gave (record { present = first; copy = further.Ended rest }) ts' es' ps' us'' fs'' qs'' ≡ effect_by (outcome_on (heard_book anyone s) budget ts es ps) (with_read (book_of s) read) (conclusions (book_of s)) budget us fs qs)
+            → (moved ≡ true → gave (record { present = first; copy = Some rest }) ts' es' ps' us'' fs'' qs'' ≡ effect_by (outcome_on (heard_book anyone s) budget ts es ps) (with_read (book_of s) read) (conclusions (book_of s)) budget us fs qs)
             → (moved ≡ false → came rest us'' fs'' qs'' ≡ stayed (clash_in (layout_of h) t' S' L || denied) (end_of first) us fs qs)
-            → gave (record { present = first; copy = further.Ended rest }) ts' es' ps' us'' fs'' qs'' ≡ effect_by (outcome_on (heard_book anyone s) budget ts es ps) (with_read (book_of s) read) (conclusions (book_of s)) budget us fs qs
+            → gave (record { present = first; copy = Some rest }) ts' es' ps' us'' fs'' qs'' ≡ effect_by (outcome_on (heard_book anyone s) budget ts es ps) (with_read (book_of s) read) (conclusions (book_of s)) budget us fs qs
         answer_either rest us'' fs'' qs'' went stays = go moved refl
           where
-            go : (b : Bool) → moved ≡ b → gave (record { present = first; copy = further.Ended rest }) ts' es' ps' us'' fs'' qs'' ≡ effect_by (outcome_on (heard_book anyone s) budget ts es ps) (with_read (book_of s) read) (conclusions (book_of s)) budget us fs qs
+            go : (b : Bool) → moved ≡ b → gave (record { present = first; copy = Some rest }) ts' es' ps' us'' fs'' qs'' ≡ effect_by (outcome_on (heard_book anyone s) budget ts es ps) (with_read (book_of s) read) (conclusions (book_of s)) budget us fs qs
             go true e = went e
             go false e =
                 follows (came rest us'' fs'' qs'') goes.0
@@ -135,7 +136,7 @@ module _ {s : List ℕ} {h : Counts} {offsets : List ℕ} (o : Open s h offsets)
       pub answer_went : (rest : Answer) (us'' fs'' qs'' : List ℕ)
           → (((t e p : ℕ) → last ≡ answer.Finished t e p → ⊥) → came rest us'' fs'' qs'' ≡ came last us' fs' qs')
           → ((T : List Two) (E : List Three) (P : List Two) (U : List Two) (F : List Three) (Q : List Two) → Filled first ts' es' ps' T E P → Filled last us' fs' qs' U F Q → came rest us'' fs'' qs'' ≡ lessened T E P U F Q us' fs' qs')
-          → gave (record { present = first; copy = further.Ended rest }) ts' es' ps' us'' fs'' qs'' ≡ effect_by (outcome_on (heard_book anyone s) budget ts es ps) (with_read (book_of s) read) (conclusions (book_of s)) budget us fs qs
+          → gave (record { present = first; copy = Some rest }) ts' es' ps' us'' fs'' qs'' ≡ effect_by (outcome_on (heard_book anyone s) budget ts es ps) (with_read (book_of s) read) (conclusions (book_of s)) budget us fs qs
       answer_went rest us'' fs'' qs'' other both =
           follows (came rest us'' fs'' qs'') goes.0
           (ap (λ (d : Decoded). difference d (conclusions (book_of s)) budget us fs qs) copy_is
@@ -144,10 +145,15 @@ module _ {s : List ℕ} {h : Counts} {offsets : List ℕ} (o : Open s h offsets)
 -- ---- before the run
 
 -- a present run that is refused stands alone
-pub alone_effect : (s x : List ℕ) (budget : ℕ) (ts es ps us fs qs : List ℕ) (n : ℕ) → outcome s budget ts es ps ≡ untouched ts es ps (Refused n)
-    → gave (record { present = answer.Refused n; copy = further.Alone }) ts es ps us fs qs ≡ effect s x budget ts es ps us fs qs
+pub alone_effect : (s x : List ℕ) (budget : ℕ) (ts es ps us fs qs : List ℕ) (k : Refusal) → outcome s budget ts es ps ≡ untouched ts es ps (Refused (number k))
+    → gave (record { present = answer.Refused k; copy = None }) ts es ps us fs qs ≡ effect s x budget ts es ps us fs qs
 unfolding effect
-alone_effect s x budget ts es ps us fs qs n e = sym (ap (λ (q : Outcome). on_finished q.end (by_itself q us fs qs) (followed q (difference (decode (copied s x)) (had (decode s)) budget us fs qs))) e)
+alone_effect s x budget ts es ps us fs qs k e = sym (ap (λ (q : Outcome). on_finished q.end (by_itself q us fs qs) (followed q (difference (decode (copied s x)) (had (decode s)) budget us fs qs))) e)
+
+-- what is left of a refusal at the exit of a `?`
+pub stops_left : (r : Result Prospect Refusal) (k : Refusal) {ts es ps us fs qs : List ℕ} {x : Effect} → IsErrAnd r (λ y. y ≡ k) → gave (record { present = answer.Refused k; copy = None }) ts es ps us fs qs ≡ x → gave (prospect r) ts es ps us fs qs ≡ x
+stops_left (Ok a) k p q = absurd p
+stops_left (Err y) k {ts} {es} {ps} {us} {fs} {qs} p q = ap (λ (z : Refusal). gave (record { present = answer.Refused z; copy = None }) ts es ps us fs qs) p ∙ q
 
 -- a record that is read keeps to the counts
 pub record_within : (h : Counts) (x : List ℕ) (y : Statement) (next : ℕ) → one_record h x 0 ≡ value y next → Within h y.body

@@ -1,22 +1,33 @@
 -- The answer.
-use Rattle.std.specs.Prelude.{ℕ, ◌*◌, Bool, List, length, ltb}
+use Rattle.std.specs.Prelude.{ℕ, ◌*◌, Bool, List, length, ltb, Option, Some, None, Result, Ok, Err}
 use Rattle.book.specs.Read.{pick}
 use Rattle.book.specs.Book.{Decoded}
 use Rattle.rules.specs.Rule.{Set}
 use Rattle.rules.specs.Ends.{End, Refused, Spent, Clash, Finished, Outcome, cleared}
 use Rattle.verdict.specs.Conclude.{end_of, came}
 use Rattle.effect.specs.Effect.{Further, alone, further, Effect, on_finished, by_itself, followed, difference}
-use Rattle.whatif.specs.declared.answer.Further.{Further as Given}
-use Rattle.whatif.specs.declared.answer.Further.TheVariants.{Alone, Ended}
+use Rattle.book.specs.declared.refusal.Refusal.{Refusal}
+use Rattle.verdict.specs.declared.end.End.{End as Given}
+use Rattle.verdict.specs.declared.end.End.TheVariants.{Refused as refused}
 use Rattle.whatif.specs.declared.answer.Prospect.{Prospect}
+use Rattle.saturation.specs.declared.lists.Lists.{Lists}
 
-abbrev pub further_of : Given → Further
-further_of Alone = alone
-further_of (Ended e) = further (end_of e)
+abbrev pub further_of : Option Given → Further
+further_of None = alone
+further_of (Some e) = further (end_of e)
 
 -- the answer, the present lists at exit, and those for the difference
 abbrev pub gave : Prospect → List ℕ → List ℕ → List ℕ → List ℕ → List ℕ → List ℕ → Effect
 gave r ts es ps us fs qs = record { present = came r.present ts es ps; copy = further_of r.copy; types = us; edges = fs; pairs = qs }
+
+-- the same of the present lists, and those for the difference
+abbrev pub left : Prospect → Lists → Lists → Effect
+left r l m = gave r l.types.now l.edges.now l.pairs.now m.types.now m.edges.now m.pairs.now
+
+-- the answer where the present run may be refused
+abbrev pub prospect : Result Prospect Refusal → Prospect
+prospect (Ok r) = r
+prospect (Err e) = record { present = refused e; copy = None }
 
 -- the effect, by the present outcome, the copy and the present facts
 abbrev pub effect_by : Outcome → Decoded → Set → ℕ → List ℕ → List ℕ → List ℕ → Effect

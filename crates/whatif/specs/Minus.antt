@@ -5,6 +5,7 @@ use Rattle.book.specs.Within.{Every}
 use Rattle.rules.specs.Fact.{Two, Three}
 use Rattle.rules.specs.Lists.{entries2, entries3, filled}
 use Rattle.rules.specs.Ends.{Finished, Outcome}
+use Rattle.saturation.specs.declared.lists.Lists.{Lists}
 use Rattle.verdict.specs.declared.end.End.{End as Answer}
 use Rattle.verdict.specs.declared.end.End.TheVariants.{Finished as finished}
 
@@ -73,6 +74,10 @@ pub record Filled (r : Answer) (ts es ps : List ℕ) (T : List Two) (E : List Th
   pub types : ts ≡ filled (entries2 T) (length ts)
   pub edges : es ≡ filled (entries3 E) (length es)
   pub pairs : ps ≡ filled (entries2 P) (length ps)
+
+-- into these lists
+abbrev pub Listed : Answer → Lists → List Two → List Three → List Two → Type 0
+Listed r l T E P = Filled r l.types.now l.edges.now l.pairs.now T E P
 
 -- by their rows
 abbrev pub same2 : Two → Two → Bool

@@ -8,14 +8,17 @@ ghost use Rattle.said.specs.Layout.{layout_of, Placed, total_rows};
 ghost use Rattle.verdict.specs.Verdict.{clash_in};
 ghost use Rattle.verdict.specs.Conclude.{end_of, came};
 ghost use Rattle.verdict.specs.declared.end.End.TheVariants as end;
+ghost use Rattle.saturation.specs.Lists.{Same, over};
 ghost use Rattle.saturation.specs.Run.{outcome_on, Admitted, Drawn};
-ghost use Rattle.whatif.specs.Minus.{Filled, lessened};
+ghost use Rattle.whatif.specs.Minus.{Listed, lessened};
 ghost use Rattle.whatif.specs.Answer.{stayed};
 
 use super::copy::Redrawn;
 use super::remove::remove;
+use book::refusal::Refusal;
 use said::layout::{Layout, layout_of};
 use saturation::enter::Task;
+use saturation::lists::Lists;
 use saturation::run::{Drawing, read_off};
 use verdict::conclude::clear_all;
 use verdict::end::End;
@@ -29,15 +32,14 @@ fn stay(
     leaves: &[u32],
     denied: bool,
     first: End,
-    types: &mut [u32],
-    edges: &mut [u32],
-    pairs: &mut [u32],
+    lists: &mut Lists,
 ) -> End
     requires table { Table layout.size t.now }
     requires placed { Placed layout × (total_rows layout * 8 ≤ length says.now) × (layout.concepts ≤ length leaves.now) }
-    ensures { came result types.new edges.new pairs.new ≡ stayed (clash_in layout t.now says.now leaves.now || denied) (end_of first) types.old edges.old pairs.old }
+    ensures same { Same lists.old lists.new }
+    ensures outcome { over (came result) lists.new ≡ over (stayed (clash_in layout t.now says.now leaves.now || denied) (end_of first)) lists.old }
 {
-    clear_all(types, edges, pairs);
+    clear_all(lists.types, lists.edges, lists.pairs);
     let End::Finished(a, b, c) = first else {
         return first;
     };
@@ -45,8 +47,8 @@ fn stay(
     if clashes {
         return End::Clash(a, b);
     }
-    if pairs.len() < 2 * (c as usize) {
-        return End::Refused(11);
+    if lists.pairs.len() < 2 * (c as usize) {
+        return End::Refused(Refusal::ShortPairList);
     }
     End::Finished(0, 0, 0)
 }
@@ -60,15 +62,14 @@ pub fn read_on(
     labels: &[u32],
     again: Redrawn,
     first: End,
-    types: &mut [u32],
-    edges: &mut [u32],
-    pairs: &mut [u32],
+    lists: &mut Lists,
 ) -> End
     requires inside { (B : Book) × Inside B × (B.counts ≡ task.counts) × Drawn task.counts B task.budget says.now leaves.now labels.now t.now again.used again.denied }
     requires counts_in_bounds { (total_rows (layout_of task.counts) * 8 ≤ length says.now) × (task.counts.concepts ≤ length leaves.now) }
-    requires admitted { Admitted task.budget types.old edges.old }
-    ensures pairs_after { again.moved ≡ true → (B : Book) → Inside B → B.counts ≡ task.counts → Drawn task.counts B task.budget says.now leaves.now labels.now t.now again.used again.denied → came result types.new edges.new pairs.new ≡ outcome_on B task.budget types.old edges.old pairs.old }
-    ensures pairs_after_2 { again.moved ≡ false → came result types.new edges.new pairs.new ≡ stayed (clash_in (layout_of task.counts) t.now says.now leaves.now || again.denied) (end_of first) types.old edges.old pairs.old }
+    requires admitted { Admitted task.budget lists.old.types.now lists.old.edges.now }
+    ensures same { Same lists.old lists.new }
+    ensures pairs_after { again.moved ≡ true → (B : Book) → Inside B → B.counts ≡ task.counts → Drawn task.counts B task.budget says.now leaves.now labels.now t.now again.used again.denied → over (came result) lists.new ≡ over (outcome_on B task.budget) lists.old }
+    ensures pairs_after_2 { again.moved ≡ false → over (came result) lists.new ≡ over (stayed (clash_in (layout_of task.counts) t.now says.now leaves.now || again.denied) (end_of first)) lists.old }
 {
     if again.moved {
         let drawn = Drawing {
@@ -77,7 +78,7 @@ pub fn read_on(
             denies: true,
             denied: again.denied,
         };
-        return read_off(t, task, says, leaves, labels, drawn, types, edges, pairs);
+        return read_off(t, task, says, leaves, labels, drawn, lists);
     }
     stay(
         t,
@@ -86,33 +87,20 @@ pub fn read_on(
         leaves,
         again.denied,
         first,
-        types,
-        edges,
-        pairs,
+        lists,
     )
 }
 
 // What the present run listed is taken out of what the copy did, where anything moved.
-pub fn lessen(
-    moved: bool,
-    first: End,
-    second: End,
-    types: &[u32],
-    edges: &[u32],
-    pairs: &[u32],
-    more_types: &mut [u32],
-    more_edges: &mut [u32],
-    more_pairs: &mut [u32],
-) -> End
-    requires { moved ≡ true → (t e p a b c : ℕ) → first ≡ end.Finished t e p → second ≡ end.Finished a b c → ((T : List Two) × (E : List Three) × (P : List Two) × Filled first types.now edges.now pairs.now T E P) × ((T : List Two) × (E : List Three) × (P : List Two) × Filled second more_types.old more_edges.old more_pairs.old T E P) }
-    ensures more_pairs_after { moved ≡ false → came result more_types.new more_edges.new more_pairs.new ≡ came second more_types.old more_edges.old more_pairs.old }
-    ensures more_pairs_after_2 { moved ≡ true → ((t e p : ℕ) → second ≡ end.Finished t e p → ⊥) → came result more_types.new more_edges.new more_pairs.new ≡ came second more_types.old more_edges.old more_pairs.old }
-    ensures more_pairs_after_3 { moved ≡ true → (T : List Two) (E : List Three) (P : List Two) (U : List Two) (F : List Three) (Q : List Two) → Filled first types.now edges.now pairs.now T E P → Filled second more_types.old more_edges.old more_pairs.old U F Q → came result more_types.new more_edges.new more_pairs.new ≡ lessened T E P U F Q more_types.old more_edges.old more_pairs.old }
+pub fn lessen(moved: bool, first: End, second: End, lists: &Lists, more: &mut Lists) -> End
+    requires { moved ≡ true → (t e p a b c : ℕ) → first ≡ end.Finished t e p → second ≡ end.Finished a b c → ((T : List Two) × (E : List Three) × (P : List Two) × Listed first lists.now T E P) × ((T : List Two) × (E : List Three) × (P : List Two) × Listed second more.old T E P) }
+    ensures same { Same more.old more.new }
+    ensures more_pairs_after { moved ≡ false → over (came result) more.new ≡ over (came second) more.old }
+    ensures more_pairs_after_2 { moved ≡ true → ((t e p : ℕ) → second ≡ end.Finished t e p → ⊥) → over (came result) more.new ≡ over (came second) more.old }
+    ensures more_pairs_after_3 { moved ≡ true → (T : List Two) (E : List Three) (P : List Two) (U : List Two) (F : List Three) (Q : List Two) → Listed first lists.now T E P → Listed second more.old U F Q → over (came result) more.new ≡ over (lessened T E P U F Q) more.old }
 {
     if moved {
-        return remove(
-            first, second, types, edges, pairs, more_types, more_edges, more_pairs,
-        );
+        return remove(first, second, lists, more);
     }
     second
 }

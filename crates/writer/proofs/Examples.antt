@@ -10,9 +10,8 @@ use Rattle.book.specs.Header.{header}
 use Rattle.book.specs.Statement.{statement_start_lem, path_of_lem, axiom_of_lem, statement_end_lem, statement_rest_lem, statement}
 use Rattle.book.specs.Bytes.{header_bytes, statement_bytes, statements_bytes, repeats}
 use Rattle.book.specs.Book.{concepts, book, decode, concept_offset, concept_bytes, restated}
-use Rattle.writer.specs.declared.write.Answer.TheVariants.{Written, Refused}
 use Rattle.writer.specs.Kept.{without, kept}
-use Rattle.writer.specs.Written.{written_of, written, writes}
+use Rattle.writer.specs.Written.{Written, Refused, written_of, written, writes}
 
 -- a header of one role and two individuals, with a statement count
 abbrev counted : ℕ → List ℕ

@@ -2,14 +2,15 @@
 use Prim.Native.Nat.{ℕ, zero, suc, ◌+◌, ◌-◌, ◌≤◌, ◌<◌}
 use native.Mathlib.Omega.{arith}
 use native.Mathlib.Decide.{ℕ_discrete}
-use mathlib.Core.Path.{◌≡◌, refl, sym, ap, ◌∙◌, subst}
+use mathlib.Core.Path.{◌≡◌, refl, sym, ap, ap₂, ◌∙◌, subst}
 use mathlib.Core.Bool.{Bool, true, false, not}
 use mathlib.Core.List.{List, [], ◌∷◌, ◌++◌, append_assoc, append-nil}
 use lib.ListN.{length, get_or, length-append, get_or-append}
 use lib.Seq.{get_or_at}
 use Rattle.book.specs.declared.header.Counts.{Counts}
 use Rattle.book.specs.declared.statement.Statement.{Statement}
-use Rattle.book.specs.declared.reader.Turn.TheVariants.{Next, End}
+use Rattle.std.specs.Prelude.{Some, None}
+use Rattle.std.proofs.lemmas.Option.{some_pair_parts}
 use Rattle.book.specs.Read.{Read, value, refusal}
 use Rattle.book.specs.Header.{Limits}
 use Rattle.book.specs.Statement.{statement}
@@ -27,11 +28,11 @@ use Rattle.writer.specs.Tree.{Match, Tree, Kept}
 use Rattle.writer.specs.Gathering.{spare, ReadsAt, Records, Gathering}
 use Rattle.writer.proofs.Matching.{alike_equal, equal_alike}
 
-turned : (r : Read Statement) (x : Statement) (next : ℕ) → turn_of r ≡ Next x next → r ≡ value x next
-turned (value y m) x next t = let a : y ≡ x = cc in let b : m ≡ next = cc in cc
-turned (refusal n) x next t = absurd (let z : ◌≡◌ {A = ℕ} 0 1 = cc in omega arith)
+turned : (r : Read Statement) (x : Statement) (next : ℕ) → turn_of r ≡ Some (x, next) → r ≡ value x next
+turned (value y m) x next t = let q = some_pair_parts y x m next t in ap₂ value q.0 q.1
+turned (refusal n) x next t = absurd cc
 
-turn_read : (s : List ℕ) (h : Counts) (at : ℕ) (x : Statement) (next : ℕ) → turn_at_lem s h at ≡ Next x next → statement h s at ≡ value x next
+turn_read : (s : List ℕ) (h : Counts) (at : ℕ) (x : Statement) (next : ℕ) → turn_at_lem s h at ≡ Some (x, next) → statement h s at ≡ value x next
 unfolding turn_at_lem
 turn_read s h at x next t = turned (statement h s at) x next t
 
@@ -52,19 +53,19 @@ pub gathering_begin : (s : List ℕ) (h : Counts) (start : ℕ) (child place siz
 unfolding kept
 gathering_begin s h start child place size t = record { tree = t; passed = []; split = refl; records = record { counted = refl; reads = λ k l. absurd (omega arith) } }
 
-pub gathering_end : (s : List ℕ) (h : Counts) (start count : ℕ) (child place size : List ℕ) (here : ℕ) → Gathering s h start count child place size here → turn_at_lem s h here ≡ End → Records s h (kept (rest s h start)) count place size
+pub gathering_end : (s : List ℕ) (h : Counts) (start count : ℕ) (child place size : List ℕ) (here : ℕ) → Gathering s h start count child place size here → turn_at_lem s h here ≡ None → Records s h (kept (rest s h start)) count place size
 gathering_end s h start count child place size here g e =
     let q : rest s h start ≡ g.passed = g.split ∙ (ap (λ (l : List Statement). g.passed ++ l) (rest_end s h here e) ∙ append-nil g.passed) in
     subst (λ (l : List Statement). Records s h (kept l) count place size) (sym q) g.records
 
 -- fewer have been kept than there are
-pub gathering_room : (s : List ℕ) (h : Counts) (start count : ℕ) (child place size : List ℕ) (here : ℕ) (x : Statement) (next : ℕ) → Gathering s h start count child place size here → turn_at_lem s h here ≡ Next x next → count < length (rest s h start)
+pub gathering_room : (s : List ℕ) (h : Counts) (start count : ℕ) (child place size : List ℕ) (here : ℕ) (x : Statement) (next : ℕ) → Gathering s h start count child place size here → turn_at_lem s h here ≡ Some (x, next) → count < length (rest s h start)
 gathering_room s h start count child place size here x next g t =
     let q : length (rest s h start) ≡ length g.passed + length (rest s h here) = ap length g.split ∙ length-append g.passed (rest s h here) in
     let r : length (rest s h here) ≡ suc (length (rest s h next)) = ap length (rest_next s h here x next t) in
     omega (arith, kept_length g.passed, g.records.counted)
 
-module _ (s : List ℕ) (bytes : Bytes s) (h : Counts) (lim : Limits h) (start count : ℕ) (child place size : List ℕ) (here : ℕ) (x : Statement) (next : ℕ) (g : Gathering s h start count child place size here) (turn : turn_at_lem s h here ≡ Next x next) where
+module _ (s : List ℕ) (bytes : Bytes s) (h : Counts) (lim : Limits h) (start count : ℕ) (child place size : List ℕ) (here : ℕ) (x : Statement) (next : ℕ) (g : Gathering s h start count child place size here) (turn : turn_at_lem s h here ≡ Some (x, next)) where
   abbrev n : ℕ
   n = next - here
 

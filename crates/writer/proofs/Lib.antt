@@ -9,3 +9,4 @@ pub mod Matching
 pub mod Going
 pub mod Over
 pub mod Parts
+pub mod Spans

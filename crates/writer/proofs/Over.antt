@@ -1,11 +1,12 @@
 -- Bytes laid over others: one after the other is both at once.
-use Prim.Native.Nat.{ℕ, zero, suc, ◌+◌, ◌-◌, ◌/◌, ◌%◌, ◌≤◌, ◌<◌}
+use Prim.Native.Nat.{ℕ, zero, suc, ◌+◌, ◌-◌, ◌≤◌, ◌<◌}
 use native.Mathlib.Omega.{arith}
 use native.Mathlib.Numerals.{add-one}
-use mathlib.Core.Path.{◌≡◌, refl, ap, ap₂, ◌∙◌, subst}
+use mathlib.Core.Path.{◌≡◌, refl, sym, ap, ap₂, ◌∙◌, subst}
 use mathlib.Core.List.{List, [], ◌∷◌, ◌++◌, append_assoc, append-nil}
-use lib.ListN.{length, get_or, set, take, drop, length-append, length-drop, take-append-drop}
-use lib.Seq.{slice, length-slice, length-take-le, take_at, drop-append-add, drop-drop, sets-eq, paste, take-take}
+use lib.ListN.{length, get_or, take, drop, length-append, length-drop, take-append-drop}
+use lib.Seq.{slice, length-slice, length-take-le, take_at, drop-append-add, drop-drop}
+use borrow.Rule.Slice.PartMut.{put_mid}
 use mathlib.Core.Bool.{Bool, true, false}
 use lib.Dec.{eqb}
 use borrow.Author.Tests.{eq-eqb, ne_eqb, eqb-false}
@@ -47,15 +48,10 @@ pub over_none : (o : List ℕ) (a : ℕ) → over o a [] ≡ o
 unfolding over
 over_none o a = let q : a + 0 ≡ a = omega arith in rw (q, append-nil (take a o)) (take-append-drop a o)
 
--- a copy
-pub over_paste : (o : List ℕ) (to : ℕ) (s : List ℕ) (from n : ℕ) → from + n ≤ length s → paste o to (drop from s) n ≡ over o to (slice from (from + n) s)
+-- a part that is replaced
+pub over_part : (o l l' : List ℕ) (a k : ℕ) → k ≡ length l → l' ≡ l → put_mid a k o l' ≡ over o a l
 unfolding over
-over_paste o to s from n l = rw (slice_size s from n l, slice_take s from n) refl
-
--- two stores
-pub over_two : (o : List ℕ) (at n : ℕ) → at + 2 ≤ length o → set (set o at (n % 256)) (at + 1) (n / 256) ≡ over o at (two_of n)
-unfolding over
-over_two o at n l = rw (add-one at) (sets-eq (two_of n) o at l)
+over_part o l l' a k n e = rw (e, n) (sym (append_assoc (take a o) l (drop (length l) (drop a o))) ∙ ap (λ (t : List ℕ). take a o ++ l ++ t) (drop-drop (length l) a o))
 
 -- the sizes, and the records laid one after the other
 pub total_none : (size : List ℕ) → total size 0 ≡ 0
@@ -106,19 +102,16 @@ records_room size start count k len l fits =
     omega (arith, total_more size k)
 
 -- the header
-pub header_kept : (s o : List ℕ) (front count : ℕ) → count ≡ 0 → over o 0 (slice 0 (0 + front) s) ≡ over o 0 (recounted (take front s) count)
+pub header_kept : (h o : List ℕ) (count : ℕ) → count ≡ 0 → over o 0 h ≡ over o 0 (recounted h count)
 unfolding recounted
-header_kept s o front count z = let q : 0 + front ≡ front = omega arith in rw (q, eq-eqb count 0 z) refl
+header_kept h o count z = rw (eq-eqb count 0 z) refl
 
-pub header_recounted : (s o : List ℕ) (front count : ℕ) → (count ≡ 0 → ⊥) → 2 ≤ front → front ≤ length s → front ≤ length o → over (over o 0 (slice 0 (0 + (front - 2)) s)) (front - 2) (two_of count) ≡ over o 0 (recounted (take front s) count)
+pub header_recounted : (h o : List ℕ) (count : ℕ) → (count ≡ 0 → ⊥) → 2 ≤ length h → length h ≤ length o → over (over o 0 (take (length h - 2) h)) (length h - 2) (two_of count) ≡ over o 0 (recounted h count)
 unfolding recounted
-header_recounted s o front count d two l m =
-    let q : 0 + (front - 2) ≡ front - 2 = omega arith in
-    let n : length (take (front - 2) s) ≡ front - 2 = length-take-le (front - 2) s (omega arith) in
-    let a : front - 2 ≡ 0 + length (take (front - 2) s) = omega arith in
-    let f : length (take front s) - 2 ≡ front - 2 = omega (arith, length-take-le front s l) in
-    let t : take (front - 2) (take front s) ≡ take (front - 2) s = take-take (front - 2) front s (omega arith) in
-    rw (q, ne_eqb count 0 d, f, t) (ap (λ (i : ℕ). over (over o 0 (take (front - 2) s)) i (two_of count)) a ∙ over_over o 0 (take (front - 2) s) (omega arith) (two_of count))
+header_recounted h o count d two m =
+    let n : length (take (length h - 2) h) ≡ length h - 2 = length-take-le (length h - 2) h (omega arith) in
+    let a : length h - 2 ≡ 0 + length (take (length h - 2) h) = omega arith in
+    rw (ne_eqb count 0 d) (ap (λ (i : ℕ). over (over o 0 (take (length h - 2) h)) i (two_of count)) a ∙ over_over o 0 (take (length h - 2) h) (omega arith) (two_of count))
 
 -- the whole
 pub lay_whole : (o h m r : List ℕ) (front start : ℕ) → length h ≡ front → length (h ++ m) ≡ start → start + length r ≤ length o → over (over (over o 0 h) front m) start r ≡ over o 0 (h ++ m ++ r)
@@ -140,7 +133,7 @@ recounted_length header count two = go (eqb count 0) refl
         let t : 2 ≤ length header = two (omega arith) in
         length-append (take (length header - 2) header) (two_of count) ∙ omega (arith, length-take-le (length header - 2) header (omega arith))
 
-pub laid_all : (s place size o o₁ o₂ o₃ : List ℕ) (front start count : ℕ) → Stand s count place size → front ≤ start → start ≤ length s → start + total size count ≤ length o → (0 < count → 2 ≤ front) → o₁ ≡ over o 0 (recounted (take front s) count) → o₂ ≡ over o₁ front (slice front (front + (start - front)) s) → o₃ ≡ over o₂ start (records_bytes s place size count) → o₃ ≡ over o 0 (recounted (take front s) count ++ slice front start s ++ records_bytes s place size count)
+pub laid_all : (s place size o o₁ o₂ o₃ : List ℕ) (front start count : ℕ) → Stand s count place size → front ≤ start → start ≤ length s → start + total size count ≤ length o → (0 < count → 2 ≤ front) → o₁ ≡ over o 0 (recounted (take front s) count) → o₂ ≡ over o₁ front (take (start - front) (drop front s)) → o₃ ≡ over o₂ start (records_bytes s place size count) → o₃ ≡ over o 0 (recounted (take front s) count ++ slice front start s ++ records_bytes s place size count)
 laid_all s place size o o₁ o₂ o₃ front start count st l m fits two e₁ e₂ e₃ =
     let h = recounted (take front s) count in
     let c = slice front start s in
@@ -150,5 +143,6 @@ laid_all s place size o o₁ o₂ o₃ front start count st l m fits two e₁ e�
     let p₁ : length h ≡ front = recounted_length (take front s) count (λ some. omega (arith, two some)) ∙ n in
     let p₂ : length (h ++ c) ≡ start = length-append h c ∙ omega (arith, length-slice front start s m) in
     let p₃ : length r ≡ total size count = records_size s place size count st.inside in
-    let a : o₂ ≡ over (over o 0 h) front c = e₂ ∙ ap₂ (λ (x : List ℕ) (i : ℕ). over x front (slice front i s)) e₁ q in
+    let t : take (start - front) (drop front s) ≡ c = sym (slice_take s front (start - front)) ∙ ap (λ (i : ℕ). slice front i s) q in
+    let a : o₂ ≡ over (over o 0 h) front c = e₂ ∙ ap₂ (λ (x : List ℕ) (y : List ℕ). over x front y) e₁ t in
     e₃ ∙ (ap (λ (x : List ℕ). over x start r) a ∙ lay_whole o h c r front start p₁ p₂ (omega arith))

@@ -14,14 +14,14 @@ use Rattle.book.specs.Read.{pick}
 use Rattle.book.specs.Header.{counting, Limits}
 use Rattle.book.specs.Reader.{rest}
 use Rattle.book.specs.Bytes.{Bytes, Has, header_bytes, statement_bytes, statements_bytes}
-use Rattle.book.specs.declared.check.Checked.{Checked}
-use Rattle.book.specs.declared.check.Checked.TheVariants.{Accepted}
+use Rattle.std.specs.Prelude.{Result, Ok, Err, IsErrAnd}
+use Rattle.book.specs.Refusal.{number}
+use Rattle.book.specs.declared.refusal.Refusal.{Refusal}
 use Rattle.book.specs.Book.{Book, accepted, refused, decode, concept_offset, BookChecked}
 use Rattle.book.proofs.Bytes.{statement_read, bytes_snoc}
 use Rattle.book.proofs.Accepted.{accepted_rest, accepted_limits, accepted_statements, checked_accepted}
 use Rattle.writer.specs.Kept.{kept}
-use Rattle.writer.specs.declared.write.Answer.TheVariants.{Written, Refused}
-use Rattle.writer.specs.Written.{written, laid_out, writes}
+use Rattle.writer.specs.Written.{Written, Refused, as_answer, written, laid_out, writes}
 use Rattle.writer.specs.Gathering.{spare, Records}
 use Rattle.writer.specs.Lay.{over, recounted, total, records_bytes, Stand}
 use Rattle.writer.specs.Located.{Located}
@@ -142,7 +142,7 @@ module _ (s : List ℕ) (bytes : Bytes s) (h : Counts) (front start : ℕ) (loc 
           rw (le-ltb (length out) (length (written s)) (omega (arith, long))) (ap₂ (λ (i : ℕ) (o : List ℕ). record { answer = Written i; out = o }) (sym long) q)
 
 -- the book, located by its check
-pub located : (s : List ℕ) (r : Checked) (h : Counts) (start front : ℕ) (offsets : List ℕ) → length offsets ≡ 1 → BookChecked s r offsets → r ≡ Accepted h start → front ≡ pick (eqb h.concepts 0) start (get_or offsets 0 0) → Located s h front start
+pub located : (s : List ℕ) (r : Result (Counts × ℕ) Refusal) (h : Counts) (start front : ℕ) (offsets : List ℕ) → length offsets ≡ 1 → BookChecked s r offsets → r ≡ Ok (h, start) → front ≡ pick (eqb h.concepts 0) start (get_or offsets 0 0) → Located s h front start
 located s r h start front offsets one checked is e =
     let a = checked_accepted s offsets r checked h start is in
     record { book = a.0; whole = a.1; counts = a.2; concepts_at_lem = e ∙ go (eqb h.concepts 0) refl a.0 a.1 a.2 a.3; statements_at_lem = a.3 }
@@ -161,6 +161,10 @@ writes_accepted s out B whole = simp whole
 pub writes_refused : (s out : List ℕ) (n : ℕ) → decode s ≡ refused n → record { answer = Refused n; out = out } ≡ writes s out
 unfolding writes
 writes_refused s out n e = simp e
+
+pub refused_as : (r : Result ℕ Refusal) (e : Refusal) → IsErrAnd r (λ y. y ≡ e) → as_answer r ≡ Refused (number e)
+refused_as (Ok n) e p = absurd p
+refused_as (Err y) e p = ap (λ (z : Refusal). Refused (number z)) p
 
 pub front_none : (concepts start first : ℕ) → concepts ≡ 0 → start ≡ pick (eqb concepts 0) start first
 front_none concepts start first e = simp (eq-eqb concepts 0 e)

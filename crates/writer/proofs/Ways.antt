@@ -8,7 +8,7 @@ use mathlib.Core.List.{List}
 use lib.ListN.{get_or, set}
 use lib.Seq.{get_or-set_other}
 use Rattle.writer.specs.Record.{digit_of}
-use Rattle.writer.specs.declared.tree.Found.TheVariants.{Already, Free}
+use Rattle.std.proofs.Common.{Some, None}
 use Rattle.writer.specs.Tree.{Way, root, down, Match, Tree, Slot, Searched}
 use Rattle.writer.proofs.Digits.{digits_alike}
 
@@ -80,7 +80,7 @@ module _ (s : List ℕ) (count : ℕ) (child place size : List ℕ) (t : Tree s 
       pub walk_slot : Slot s count child at n (16 * i + x)
       walk_slot = record { parent = i; depth = d; low = w.low; is = ap (λ (k : ℕ). 16 * i + k) is; digit = omega arith; way = w.way; free = missing }
 
-      pub search_free : Searched s count child place size at n (Free (16 * i + x))
+      pub search_free : Searched s count child place size at n (Some (16 * i + x))
       search_free =
           record {
             already = λ e. absurd (let z : ◌≡◌ {A = ℕ} 0 1 = cc in omega arith);
@@ -91,7 +91,7 @@ module _ (s : List ℕ) (count : ℕ) (child place size : List ℕ) (t : Tree s 
     pub walk_less : (next : ℕ) → next ≡ get_or child (16 * i + x) 0 → (next ≡ 0 → ⊥) → count - next < count - i
     walk_less next e some = let after = t.later i x small (λ z. some (e ∙ z)) in omega (arith, after.0, after.1, w.low)
 
-  pub search_already : (i : ℕ) → i < count → Match s place size i at n → Searched s count child place size at n Already
+  pub search_already : (i : ℕ) → i < count → Match s place size i at n → Searched s count child place size at n None
   search_already i l m =
       record {
         already = λ e. (i, l, m);

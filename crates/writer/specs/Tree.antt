@@ -1,9 +1,7 @@
 -- The records kept so far as a digital search tree: record 0 is its root, and entry 16 * k + x of `child` is the record below record k for the digit x, or 0 for none.
 -- A record is found on the way from the root by its own digits. Two records on one way agree in every digit above the lower one, so a way is no longer than
 -- a record has digits, and one more: at most 35 records of at most 17 bytes.
-use Rattle.std.specs.Prelude.{ℕ, suc, ◌+◌, ◌*◌, ◌≤◌, ◌<◌, ◌≡◌, List, length, get_or}
-use Rattle.writer.specs.declared.tree.Found.{Found}
-use Rattle.writer.specs.declared.tree.Found.TheVariants.{Already, Free}
+use Rattle.std.specs.Prelude.{ℕ, suc, ◌+◌, ◌*◌, ◌≤◌, ◌<◌, ◌≡◌, List, length, get_or, Option, Some, None}
 use Rattle.writer.specs.Record.{Alike, digit_of}
 
 -- record i is d steps from the root, by the digits x
@@ -35,10 +33,10 @@ pub record Slot (s : List ℕ) (count : ℕ) (child : List ℕ) (at n slot : ℕ
   pub free : get_or child slot 0 ≡ 0
 
 -- what a search says
-pub record Searched (s : List ℕ) (count : ℕ) (child place size : List ℕ) (at n : ℕ) (r : Found) : Type 0 where
-  pub already : r ≡ Already → (k : ℕ) × (k < count) × Match s place size k at n
-  pub absent : (slot : ℕ) → r ≡ Free slot → (k : ℕ) → k < count → Match s place size k at n → ⊥
-  pub belongs : (slot : ℕ) → r ≡ Free slot → Slot s count child at n slot
+pub record Searched (s : List ℕ) (count : ℕ) (child place size : List ℕ) (at n : ℕ) (r : Option ℕ) : Type 0 where
+  pub already : r ≡ None → (k : ℕ) × (k < count) × Match s place size k at n
+  pub absent : (slot : ℕ) → r ≡ Some slot → (k : ℕ) → k < count → Match s place size k at n → ⊥
+  pub belongs : (slot : ℕ) → r ≡ Some slot → Slot s count child at n slot
 
 -- one more record was looked at: it was there, or it is the last one now
 pub record Kept (s : List ℕ) (count : ℕ) (place size : List ℕ) (at n : ℕ) (r : ℕ) (place' size' : List ℕ) : Type 0 where

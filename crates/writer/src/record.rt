@@ -1,6 +1,13 @@
-// Statement records as bytes: their digits, and whether two are alike.
+// Statement records as bytes: where they stand, their digits, and whether two are alike.
 ghost use Rattle.std.specs.Prelude.{◌≡◌, ◌+◌, ◌/◌, ◌%◌, ◌≤◌, ◌<◌, length};
-ghost use Rattle.writer.specs.Record.{half, digit_of, Compared, Matched};
+ghost use Rattle.writer.specs.Record.{half, digit_of, Matched};
+
+// So many bytes of a book, from a place on.
+#[derive(Clone, Copy)]
+pub struct Span {
+    pub at: usize,
+    pub size: usize,
+}
 
 // The low four bits of a byte for an even place, the high four for an odd one.
 fn half_of(place: usize, byte: u8) -> usize
@@ -12,39 +19,21 @@ fn half_of(place: usize, byte: u8) -> usize
     (byte as usize) / 16
 }
 
-// Digit d of the n bytes at `at`: four bits, from the last byte back; 0 where there is no further byte.
-pub fn digit(book: &[u8], at: usize, n: usize, d: usize) -> usize
-    requires { at + n ≤ length book.now }
-    ensures { (result ≡ digit_of book.now at n d) × (result < 16) }
+// Digit d of a record: four bits, from the last byte back; 0 where there is no further byte.
+pub fn digit(book: &[u8], span: Span, d: usize) -> usize
+    requires { span.at + span.size ≤ length book.now }
+    ensures { (result ≡ digit_of book.now span.at span.size d) × (result < 16) }
 {
-    if n <= d / 2 {
+    if span.size <= d / 2 {
         return 0;
     }
-    half_of(d, book[at + (n - 1 - d / 2)])
+    half_of(d, book[span.at + (span.size - 1 - d / 2)])
 }
 
-// Whether the n bytes at `a` are those at `b`.
-fn same(book: &[u8], a: usize, b: usize, n: usize) -> bool
-    requires { (a + n ≤ length book.now) × (b + n ≤ length book.now) }
-    ensures { Compared book.now a b n result }
+// Whether two records have the same bytes.
+pub fn alike(book: &[u8], a: Span, b: Span) -> bool
+    requires { (a.at + a.size ≤ length book.now) × (b.at + b.size ≤ length book.now) }
+    ensures { Matched book.now a.at a.size b.at b.size result }
 {
-    let mut i: usize = 0;
-    while i < n {
-        if book[a + i] != book[b + i] {
-            return false;
-        }
-        i = i + 1;
-    }
-    true
-}
-
-// Whether the m bytes at `a` are the n bytes at `b`.
-pub fn alike(book: &[u8], a: usize, m: usize, b: usize, n: usize) -> bool
-    requires { (a + m ≤ length book.now) × (b + n ≤ length book.now) }
-    ensures { Matched book.now a m b n result }
-{
-    if m == n {
-        return same(book, a, b, n);
-    }
-    false
+    book[a.at..a.at + a.size] == book[b.at..b.at + b.size]
 }

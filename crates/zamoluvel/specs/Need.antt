@@ -1,7 +1,6 @@
 -- What a book will need, as numbers, for callers in other languages.
 use Rattle.std.specs.Prelude.{ℕ, ◌+◌}
-use Rattle.figure.specs.declared.need.Answer.{Answer}
-use Rattle.figure.specs.declared.need.Answer.TheVariants.{Figure, Refused}
+use Rattle.figure.specs.Figure.{Answer, Figure, Refused}
 
 -- 0 for a figure, 100 + n refused by n
 abbrev pub need_code_lem : Answer → ℕ

@@ -1,7 +1,6 @@
 -- Answers as numbers, for callers in other languages.
 use Rattle.std.specs.Prelude.{ℕ, ◌+◌}
-use Rattle.writer.specs.declared.write.Answer.{Answer}
-use Rattle.writer.specs.declared.write.Answer.TheVariants.{Written, Refused}
+use Rattle.writer.specs.Written.{Answer, Written, Refused}
 
 -- 0 written, 100 + n refused by n
 abbrev pub answer_code_lem : Answer → ℕ

@@ -4,23 +4,24 @@ ghost use Rattle.derivation.specs.Accept.{judged};
 ghost use Rattle.derivation.specs.Judging.{as_judged};
 ghost use Rattle.zamoluvel.specs.Rows.{judged_code, judged_rows};
 
-use derivation::check::{Judgement, check_rows};
+use book::refusal::Refusal;
+use derivation::check::check_rows;
 
-fn judgement_code(judgement: Judgement) -> u32
+fn judgement_code(judgement: Result<usize, Refusal>) -> u32
     ensures { result ≡ judged_code (as_judged judgement) }
 {
     match judgement {
-        Judgement::Standing(_) => 0,
-        Judgement::Refused(n) => 100 + (n as u32),
+        Ok(_) => 0,
+        Err(refusal) => 100 + (refusal.number() as u32),
     }
 }
 
-fn rows_standing(judgement: Judgement) -> usize
+fn rows_standing(judgement: Result<usize, Refusal>) -> usize
     ensures { result ≡ judged_rows (as_judged judgement) }
 {
     match judgement {
-        Judgement::Standing(n) => n,
-        Judgement::Refused(_) => 0,
+        Ok(n) => n,
+        Err(_) => 0,
     }
 }
 

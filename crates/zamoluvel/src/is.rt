@@ -8,8 +8,9 @@ ghost use Rattle.judge.specs.Answered.{answer_of};
 ghost use Rattle.zamoluvel.specs.Is.{answer_code_lem, types_in, edges_in_lem, pairs_in_lem, counts_in};
 
 use super::run::{code_of, edges_of, pairs_of, types_of};
-use judge::answer::Answer;
-use judge::judge::{judge, judge_for, judge_for_on, judge_on};
+use heed::names::{Names, Reader};
+use judge::answer::{Answer, Question};
+use judge::judge::{judge, judge_as};
 
 fn answer_code(answer: Answer) -> u32
     ensures { result ≡ answer_code_lem (answer_of answer) }
@@ -93,7 +94,7 @@ pub extern "C" fn zamoluvel_is(
     answer_code(answer)
 }
 
-// `judge_for`, the same way.
+// `judge_as` for a reader, the same way.
 #[unsafe(no_mangle)]
 pub extern "C" fn zamoluvel_is_for(
     book: &[u8],
@@ -114,14 +115,23 @@ pub extern "C" fn zamoluvel_is_for(
     ensures pairs_after { pairs.new ≡ (member_for (named reader table.now) book.now budget types.old edges.old pairs.old individual concept).pairs }
     ensures judgement { (B : Book) → decode book.now ≡ accepted B → Judgement (spoken (named reader table.now) B) individual concept (member_for (named reader table.now) book.now budget types.old edges.old pairs.old individual concept).answer }
 {
-    let answer = judge_for(
-        book, budget, types, edges, pairs, reader, table, individual, concept,
-    );
+    let names = Names {
+        reader: Some(Reader {
+            number: reader,
+            table,
+        }),
+        day: None,
+    };
+    let question = Question {
+        individual,
+        concept,
+    };
+    let answer = judge_as(book, budget, types, edges, pairs, names, question);
     put_counts(counts, answer);
     answer_code(answer)
 }
 
-// `judge_on`, the same way.
+// `judge_as` of a day, the same way.
 #[unsafe(no_mangle)]
 pub extern "C" fn zamoluvel_is_on(
     book: &[u8],
@@ -141,12 +151,20 @@ pub extern "C" fn zamoluvel_is_on(
     ensures pairs_after { pairs.new ≡ (member_for (anyone_on day) book.now budget types.old edges.old pairs.old individual concept).pairs }
     ensures judgement { (B : Book) → decode book.now ≡ accepted B → Judgement (spoken (anyone_on day) B) individual concept (member_for (anyone_on day) book.now budget types.old edges.old pairs.old individual concept).answer }
 {
-    let answer = judge_on(book, budget, types, edges, pairs, day, individual, concept);
+    let names = Names {
+        reader: None,
+        day: Some(day),
+    };
+    let question = Question {
+        individual,
+        concept,
+    };
+    let answer = judge_as(book, budget, types, edges, pairs, names, question);
     put_counts(counts, answer);
     answer_code(answer)
 }
 
-// `judge_for_on`, the same way.
+// `judge_as` for a reader of a day, the same way.
 #[unsafe(no_mangle)]
 pub extern "C" fn zamoluvel_is_for_on(
     book: &[u8],
@@ -168,9 +186,18 @@ pub extern "C" fn zamoluvel_is_for_on(
     ensures pairs_after { pairs.new ≡ (member_for (reader_on reader table.now day) book.now budget types.old edges.old pairs.old individual concept).pairs }
     ensures judgement { (B : Book) → decode book.now ≡ accepted B → Judgement (spoken (reader_on reader table.now day) B) individual concept (member_for (reader_on reader table.now day) book.now budget types.old edges.old pairs.old individual concept).answer }
 {
-    let answer = judge_for_on(
-        book, budget, types, edges, pairs, reader, table, day, individual, concept,
-    );
+    let names = Names {
+        reader: Some(Reader {
+            number: reader,
+            table,
+        }),
+        day: Some(day),
+    };
+    let question = Question {
+        individual,
+        concept,
+    };
+    let answer = judge_as(book, budget, types, edges, pairs, names, question);
     put_counts(counts, answer);
     answer_code(answer)
 }

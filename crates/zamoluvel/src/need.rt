@@ -1,25 +1,26 @@
 // What a book will need.
 ghost use Rattle.std.specs.Prelude.{◌≡◌};
 ghost use Rattle.zamoluvel.specs.Need.{need_code_lem, figure_in_lem};
-ghost use Rattle.figure.specs.Figure.{figure_of};
+ghost use Rattle.figure.specs.Figure.{as_answer, figure_of};
 
-use figure::need::{Answer, figure};
+use book::refusal::Refusal;
+use figure::need::figure;
 
-fn need_code(answer: Answer) -> u32
-    ensures { result ≡ need_code_lem answer }
+fn need_code(answer: Result<u32, Refusal>) -> u32
+    ensures { result ≡ need_code_lem (as_answer answer) }
 {
     match answer {
-        Answer::Figure(_) => 0,
-        Answer::Refused(n) => 100 + (n as u32),
+        Ok(_) => 0,
+        Err(refusal) => 100 + (refusal.number() as u32),
     }
 }
 
-fn figure_in(answer: Answer) -> u32
-    ensures { result ≡ figure_in_lem answer }
+fn figure_in(answer: Result<u32, Refusal>) -> u32
+    ensures { result ≡ figure_in_lem (as_answer answer) }
 {
     match answer {
-        Answer::Figure(f) => f,
-        Answer::Refused(_) => 0,
+        Ok(f) => f,
+        Err(_) => 0,
     }
 }
 

@@ -8,8 +8,9 @@ ghost use Rattle.verdict.specs.Conclude.{end_of, came};
 ghost use Rattle.listing.specs.Listing.{ended, Left};
 ghost use Rattle.zamoluvel.specs.Run.{code_of, type_count_lem, edge_count_lem, pair_count_lem, three_counts, filled_entries};
 
+use heed::names::{Names, Reader};
 use listing::run::saturate_rows;
-use saturation::saturate::{saturate, saturate_for, saturate_for_on, saturate_on};
+use saturation::saturate::{saturate, saturate_as};
 use verdict::end::End;
 
 pub fn code_of(end: End) -> u32
@@ -19,7 +20,7 @@ pub fn code_of(end: End) -> u32
         End::Finished(_, _, _) => 0,
         End::Clash(_, _) => 1,
         End::Spent => 2,
-        End::Refused(n) => 100 + (n as u32),
+        End::Refused(refusal) => 100 + (refusal.number() as u32),
     }
 }
 
@@ -96,7 +97,7 @@ fn entries_of(edge_count: u32, pair_count: u32, named: u32) -> usize
     0
 }
 
-// `saturate_for`, the same way.
+// `saturate_as` for a reader, the same way.
 #[unsafe(no_mangle)]
 pub extern "C" fn zamoluvel_saturate_for(
     book: &[u8],
@@ -119,14 +120,21 @@ pub extern "C" fn zamoluvel_saturate_for(
     ensures pairs_after { pairs.new ≡ (outcome_for (named reader table.now) book.now budget types.old edges.old pairs.old).pairs }
     ensures demand { (B : Book) → decode book.now ≡ accepted B → Demand (spoken (named reader table.now) B) (outcome_for (named reader table.now) book.now budget types.old edges.old pairs.old) }
 {
-    let end = saturate_for(book, budget, types, edges, pairs, reader, table);
+    let names = Names {
+        reader: Some(Reader {
+            number: reader,
+            table,
+        }),
+        day: None,
+    };
+    let end = saturate_as(book, budget, types, edges, pairs, names);
     *type_count = types_of(end);
     *edge_count = edges_of(end);
     *pair_count = pairs_of(end);
     code_of(end)
 }
 
-// `saturate_on`, with the three counts in one array.
+// `saturate_as` of a day, with the three counts in one array.
 #[unsafe(no_mangle)]
 pub extern "C" fn zamoluvel_saturate_on(
     book: &[u8],
@@ -144,12 +152,16 @@ pub extern "C" fn zamoluvel_saturate_on(
     ensures pairs_after { pairs.new ≡ (outcome_for (anyone_on day) book.now budget types.old edges.old pairs.old).pairs }
     ensures demand { (B : Book) → decode book.now ≡ accepted B → Demand (spoken (anyone_on day) B) (outcome_for (anyone_on day) book.now budget types.old edges.old pairs.old) }
 {
-    let end = saturate_on(book, budget, types, edges, pairs, day);
+    let names = Names {
+        reader: None,
+        day: Some(day),
+    };
+    let end = saturate_as(book, budget, types, edges, pairs, names);
     *counts = [types_of(end), edges_of(end), pairs_of(end)];
     code_of(end)
 }
 
-// `saturate_for_on`, the same way.
+// `saturate_as` for a reader of a day, the same way.
 #[unsafe(no_mangle)]
 pub extern "C" fn zamoluvel_saturate_for_on(
     book: &[u8],
@@ -169,7 +181,14 @@ pub extern "C" fn zamoluvel_saturate_for_on(
     ensures pairs_after { pairs.new ≡ (outcome_for (reader_on reader table.now day) book.now budget types.old edges.old pairs.old).pairs }
     ensures demand { (B : Book) → decode book.now ≡ accepted B → Demand (spoken (reader_on reader table.now day) B) (outcome_for (reader_on reader table.now day) book.now budget types.old edges.old pairs.old) }
 {
-    let end = saturate_for_on(book, budget, types, edges, pairs, reader, table, day);
+    let names = Names {
+        reader: Some(Reader {
+            number: reader,
+            table,
+        }),
+        day: Some(day),
+    };
+    let end = saturate_as(book, budget, types, edges, pairs, names);
     *counts = [types_of(end), edges_of(end), pairs_of(end)];
     code_of(end)
 }

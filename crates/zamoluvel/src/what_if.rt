@@ -9,42 +9,41 @@ ghost use Rattle.zamoluvel.specs.WhatIf.{further_code_lem, further_types_lem, fu
 use super::is::put;
 use super::run::{code_of, edges_of, pairs_of, types_of};
 use verdict::end::End;
-use whatif::answer::Further;
 use whatif::what_if::what_if;
 
-fn further_code(copy: Further) -> u32
+fn further_code(copy: Option<End>) -> u32
     ensures { result ≡ further_code_lem (further_of copy) }
 {
     match copy {
-        Further::Alone => 5,
-        Further::Ended(end) => code_of(end),
+        None => 5,
+        Some(end) => code_of(end),
     }
 }
 
-fn further_types(copy: Further) -> u32
+fn further_types(copy: Option<End>) -> u32
     ensures { result ≡ further_types_lem (further_of copy) }
 {
     match copy {
-        Further::Alone => 0,
-        Further::Ended(end) => types_of(end),
+        None => 0,
+        Some(end) => types_of(end),
     }
 }
 
-fn further_edges(copy: Further) -> u32
+fn further_edges(copy: Option<End>) -> u32
     ensures { result ≡ further_edges_lem (further_of copy) }
 {
     match copy {
-        Further::Alone => 0,
-        Further::Ended(end) => edges_of(end),
+        None => 0,
+        Some(end) => edges_of(end),
     }
 }
 
-fn further_pairs(copy: Further) -> u32
+fn further_pairs(copy: Option<End>) -> u32
     ensures { result ≡ further_pairs_lem (further_of copy) }
 {
     match copy {
-        Further::Alone => 0,
-        Further::Ended(end) => pairs_of(end),
+        None => 0,
+        Some(end) => pairs_of(end),
     }
 }
 
@@ -58,7 +57,7 @@ fn put_present(counts: &mut [u32], end: End)
 }
 
 // And the four behind them the end of the copy and the counts of what is new.
-fn put_copy(counts: &mut [u32], copy: Further)
+fn put_copy(counts: &mut [u32], copy: Option<End>)
     ensures { counts.new ≡ copy_counts (further_of copy) counts.old }
 {
     put(counts, 3, further_code(copy));

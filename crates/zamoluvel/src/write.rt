@@ -1,25 +1,26 @@
 // A book cleaned.
 ghost use Rattle.std.specs.Prelude.{◌≡◌};
 ghost use Rattle.zamoluvel.specs.Write.{answer_code_lem, length_of};
-ghost use Rattle.writer.specs.Written.{writes};
+ghost use Rattle.writer.specs.Written.{as_answer, writes};
 
-use writer::write::{Answer, write};
+use book::refusal::Refusal;
+use writer::write::write;
 
-fn answer_code(answer: Answer) -> u32
-    ensures { result ≡ answer_code_lem answer }
+fn answer_code(answer: Result<usize, Refusal>) -> u32
+    ensures { result ≡ answer_code_lem (as_answer answer) }
 {
     match answer {
-        Answer::Written(_) => 0,
-        Answer::Refused(n) => 100 + (n as u32),
+        Ok(_) => 0,
+        Err(refusal) => 100 + (refusal.number() as u32),
     }
 }
 
-fn length_of(answer: Answer) -> usize
-    ensures { result ≡ length_of answer }
+fn length_of(answer: Result<usize, Refusal>) -> usize
+    ensures { result ≡ length_of (as_answer answer) }
 {
     match answer {
-        Answer::Written(n) => n,
-        Answer::Refused(_) => 0,
+        Ok(n) => n,
+        Err(_) => 0,
     }
 }
 

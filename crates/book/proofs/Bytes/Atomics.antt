@@ -7,7 +7,7 @@ use lib.ListN.{length, get_or, set}
 use lib.Dec.{ltb, eqb, lit≤}
 use borrow.Author.Tests.{eqb-true}
 use Rattle.book.specs.declared.header.Counts.{Counts}
-use Rattle.book.specs.declared.table.Start.{Start}
+use Rattle.book.specs.Table.{Start}
 use Rattle.book.specs.Read.{value}
 use Rattle.book.specs.Table.{concept_map_lem}
 use Rattle.book.specs.declared.concept.Parts.{Parts}

@@ -8,7 +8,7 @@ use lib.ListN.{length, get_or, set, replicate, length-append}
 use lib.Dec.{ltb, leb, eqb, lit<, lit≤}
 use borrow.Author.Tests.{lt-ltb, le-leb, eqb-true, eqb-false, eq-eqb}
 use Rattle.book.specs.declared.header.Counts.{Counts}
-use Rattle.book.specs.declared.table.Start.{Start}
+use Rattle.book.specs.Table.{Start}
 use Rattle.book.specs.declared.statement.Axiom.{Axiom}
 use Rattle.book.specs.declared.statement.Statement.{Statement}
 use Rattle.book.specs.declared.role.Role.{Role}

@@ -1,49 +1,38 @@
--- The step over statements: its ways out, and what is left of the statements after it.
+-- The step over statements, and what is left of the statements after it.
 use Prim.Native.Nat.{ℕ, zero, suc, ◌+◌, ◌-◌, ◌≤◌}
 use native.Mathlib.Omega.{arith}
 use mathlib.Core.Path.{◌≡◌, refl, sym, ap, ap₂, ◌∙◌}
 use mathlib.Core.List.{List, [], ◌∷◌, ◌++◌, append_assoc}
 use lib.ListN.{length}
+use Rattle.std.specs.Prelude.{Option, Some, None}
+use Rattle.std.proofs.lemmas.Option.{some_pair_parts}
 use Rattle.book.specs.declared.header.Counts.{Counts}
 use Rattle.book.specs.declared.statement.Statement.{Statement}
-use Rattle.book.specs.declared.statement.ReadStatement.{ReadStatement}
-use Rattle.book.specs.declared.statement.ReadStatement.TheVariants.{Next as Stated, Refused as Unstated}
-use Rattle.book.specs.declared.reader.Turn.{Turn}
-use Rattle.book.specs.declared.reader.Turn.TheVariants.{Next, End}
 use Rattle.book.specs.Read.{Read, value, refusal, several}
-use Rattle.book.specs.Statement.{statement, as_statement}
+use Rattle.book.specs.Statement.{statement}
 use Rattle.book.specs.Reader.{turn_of, turn_at_lem, on_turn, up_to, rest}
 use Rattle.book.specs.Within.{StatementWithin}
 use Rattle.book.proofs.Parsing.{came, same_value, Goes}
 use Rattle.book.proofs.statement.Laws.{statement_within, statement_goes}
 
-module _ (s : List ℕ) (h : Counts) (at : ℕ) (r : ReadStatement) (read : as_statement r ≡ statement h s at) where
-  pub turn_next : (x : Statement) (next : ℕ) → r ≡ Stated x next → Next x next ≡ turn_at_lem s h at
-  unfolding turn_at_lem
-  turn_next x next f = simp (← read, f)
-
-  pub turn_end : (n : ℕ) → r ≡ Unstated n → End ≡ turn_at_lem s h at
-  unfolding turn_at_lem
-  turn_end n f = simp (← read, f)
-
 module _ (s : List ℕ) (h : Counts) where
-  turned : (r : Read Statement) (x : Statement) (next : ℕ) → turn_of r ≡ Next x next → r ≡ value x next
-  turned (value y m) x next t = let a : y ≡ x = cc in let b : m ≡ next = cc in cc
+  turned : (r : Read Statement) (x : Statement) (next : ℕ) → turn_of r ≡ Some (x, next) → r ≡ value x next
+  turned (value y m) x next t = let e = some_pair_parts y x m next t in ap₂ value e.0 e.1
   turned (refusal n) x next t = absurd (let z : ◌≡◌ {A = ℕ} 0 1 = cc in omega arith)
 
-  turn_statement : (at : ℕ) (x : Statement) (next : ℕ) → turn_at_lem s h at ≡ Next x next → statement h s at ≡ value x next
+  turn_statement : (at : ℕ) (x : Statement) (next : ℕ) → turn_at_lem s h at ≡ Some (x, next) → statement h s at ≡ value x next
   unfolding turn_at_lem
   turn_statement at x next t = turned (statement h s at) x next t
 
-  turn_of_lem : (at : ℕ) (x : Statement) (next : ℕ) → statement h s at ≡ value x next → turn_at_lem s h at ≡ Next x next
+  turn_of_lem : (at : ℕ) (x : Statement) (next : ℕ) → statement h s at ≡ value x next → turn_at_lem s h at ≡ Some (x, next)
   unfolding turn_at_lem
   turn_of_lem at x next e = simp e
 
   -- a statement takes at least three bytes, and ends within the book
-  pub turn_goes : (at : ℕ) (x : Statement) (next : ℕ) → turn_at_lem s h at ≡ Next x next → Goes 3 s at next
+  pub turn_goes : (at : ℕ) (x : Statement) (next : ℕ) → turn_at_lem s h at ≡ Some (x, next) → Goes 3 s at next
   turn_goes at x next t = statement_goes s h at x next (turn_statement at x next t)
 
-  pub turn_within : (at : ℕ) (x : Statement) (next : ℕ) → turn_at_lem s h at ≡ Next x next → StatementWithin h x
+  pub turn_within : (at : ℕ) (x : Statement) (next : ℕ) → turn_at_lem s h at ≡ Some (x, next) → StatementWithin h x
   turn_within at x next t = statement_within s h at x next (turn_statement at x next t)
 
   -- no statement starts behind the book
@@ -52,9 +41,9 @@ module _ (s : List ℕ) (h : Counts) where
   nothing_left zero at l = refl
   nothing_left (suc n) at l = none (turn_at_lem s h at) refl
     where
-      none : (t : Turn) → turn_at_lem s h at ≡ t → on_turn t [] (λ x next. x ∷ up_to n s h next) ≡ []
-      none End q = refl
-      none (Next x next) q = let g = turn_goes at x next q in absurd (omega (arith, g.0, g.1))
+      none : (t : Option (Statement × ℕ)) → turn_at_lem s h at ≡ t → on_turn t [] (λ x next. x ∷ up_to n s h next) ≡ []
+      none None q = refl
+      none (Some (x, next)) q = let g = turn_goes at x next q in absurd (omega (arith, g.0, g.1))
 
   -- more turns than there are bytes give no more statements
   enough : (m n at : ℕ) → length s ≤ m + at → length s ≤ n + at → up_to m s h at ≡ up_to n s h at
@@ -63,16 +52,16 @@ module _ (s : List ℕ) (h : Counts) where
   enough (suc m) zero at a b = nothing_left (suc m) at (omega arith)
   enough (suc m) (suc n) at a b = one (turn_at_lem s h at) refl (λ next c d. enough m n next c d)
     where
-      one : (t : Turn) → turn_at_lem s h at ≡ t → ((next : ℕ) → length s ≤ m + next → length s ≤ n + next → up_to m s h next ≡ up_to n s h next) → on_turn t [] (λ x next. x ∷ up_to m s h next) ≡ on_turn t [] (λ x next. x ∷ up_to n s h next)
-      one End q ih = refl
-      one (Next x next) q ih = let g = turn_goes at x next q in ap (λ (l : List Statement). x ∷ l) (ih next (omega (arith, g.0)) (omega (arith, g.0)))
+      one : (t : Option (Statement × ℕ)) → turn_at_lem s h at ≡ t → ((next : ℕ) → length s ≤ m + next → length s ≤ n + next → up_to m s h next ≡ up_to n s h next) → on_turn t [] (λ x next. x ∷ up_to m s h next) ≡ on_turn t [] (λ x next. x ∷ up_to n s h next)
+      one None q ih = refl
+      one (Some (x, next)) q ih = let g = turn_goes at x next q in ap (λ (l : List Statement). x ∷ l) (ih next (omega (arith, g.0)) (omega (arith, g.0)))
 
-  one_less : (k at : ℕ) (x : Statement) (next : ℕ) → turn_at_lem s h at ≡ Next x next → up_to (suc k) s h at ≡ x ∷ up_to k s h next
+  one_less : (k at : ℕ) (x : Statement) (next : ℕ) → turn_at_lem s h at ≡ Some (x, next) → up_to (suc k) s h at ≡ x ∷ up_to k s h next
   unfolding up_to
   one_less k at x next e = simp e
 
   -- the two laws of a loop over the statements
-  pub rest_next : (at : ℕ) (x : Statement) (next : ℕ) → turn_at_lem s h at ≡ Next x next → rest s h at ≡ x ∷ rest s h next
+  pub rest_next : (at : ℕ) (x : Statement) (next : ℕ) → turn_at_lem s h at ≡ Some (x, next) → rest s h at ≡ x ∷ rest s h next
   unfolding rest
   rest_next at x next e =
       let g = turn_goes at x next e in
@@ -81,12 +70,12 @@ module _ (s : List ℕ) (h : Counts) where
       ∙ (one_less (length s - at - 1) at x next e
       ∙ ap (λ (l : List Statement). x ∷ l) (enough (length s - at - 1) (length s - next) next (omega (arith, g.0, g.1)) (omega (arith, g.0, g.1))))
 
-  stopped : (n at : ℕ) → turn_at_lem s h at ≡ End → up_to n s h at ≡ []
+  stopped : (n at : ℕ) → turn_at_lem s h at ≡ None → up_to n s h at ≡ []
   unfolding up_to
   stopped zero at e = refl
   stopped (suc n) at e = simp e
 
-  pub rest_end : (at : ℕ) → turn_at_lem s h at ≡ End → rest s h at ≡ []
+  pub rest_end : (at : ℕ) → turn_at_lem s h at ≡ None → rest s h at ≡ []
   unfolding rest
   rest_end at e = stopped (length s - at) at e
 
@@ -105,7 +94,7 @@ module _ (s : List ℕ) (h : Counts) where
           let a = came (several (statement h) k s at) _ xs here t in
           let b = came (statement h s a.1) _ xs here a.3 in
           let e = same_value (a.0 ++ (b.0 ∷ [])) xs b.1 here b.3 in
-          let turn : turn_at_lem s h a.1 ≡ Next b.0 b.1 = turn_of_lem a.1 b.0 b.1 b.2 in
+          let turn : turn_at_lem s h a.1 ≡ Some (b.0, b.1) = turn_of_lem a.1 b.0 b.1 b.2 in
           ih a.0 a.1 a.2
           ∙ (ap (λ (l : List Statement). a.0 ++ l) (rest_next a.1 b.0 b.1 turn)
           ∙ (sym (append_assoc a.0 (b.0 ∷ []) (rest s h b.1))

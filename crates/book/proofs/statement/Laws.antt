@@ -10,7 +10,7 @@ use lib.ListN.{get_or}
 use lib.Dec.{ltb, leb, eqb, lit<}
 use borrow.Author.Tests.{leb-true, ltb-true, eqb-true, eqb-false, not-true}
 use Rattle.book.specs.declared.header.Counts.{Counts}
-use Rattle.book.specs.declared.table.Start.{Start}
+use Rattle.book.specs.Table.{Start}
 use Rattle.book.specs.declared.statement.Statement.{Statement}
 use Rattle.book.specs.Read.{value}
 use Rattle.book.specs.Table.{statement_allows_lem}

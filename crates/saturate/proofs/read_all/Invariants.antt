@@ -1,8 +1,8 @@
-use Rattle.std.proofs.Common.{◌≡◌, ◌-◌, ◌≤◌, length}
+use Rattle.std.proofs.Common.{◌-◌, ◌≤◌, length}
 use Rattle.saturate.proofs.read_all.Given as goal
 
 abbrev pub invariant-loop-have : goal.invariant-loop-have
-invariant-loop-have l = (length l.room ≡ length l.initial.room) × (l.have ≤ length l.room)
+invariant-loop-have l = l.have ≤ length l.room
 
 abbrev pub decreases-loop-have : goal.decreases-loop-have
 decreases-loop-have l = length l.room - l.have

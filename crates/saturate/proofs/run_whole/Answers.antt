@@ -2,6 +2,6 @@
 use Rattle.saturate.specs.Output.{zeros}
 use Rattle.saturate.proofs.run_whole.Goals as goal
 
-pub returns : goal.returns
+pub returns-clause-out_after : goal.returns-clause-out_after
 unfolding zeros
-returns c = record { prefix_len = c.run.ensures.prefix_len; out_after = c.run.ensures.out_after }
+returns-clause-out_after c = c.run.ensures.out_after

@@ -14,6 +14,7 @@ use Rattle.rules.specs.Lists.{entries2, entries3, filled}
 use Rattle.rules.specs.Ends.{Outcome}
 use Rattle.rules.proofs.Tests.{both_ways}
 use Rattle.rules.proofs.Sums.{length_gather, sum_le}
+use Rattle.book.specs.declared.refusal.Refusal.TheVariants.{ShortPairList}
 use Rattle.verdict.specs.declared.end.End.TheVariants.{Finished as finished, Clash as clash, Refused as refused}
 use Rattle.tables.specs.Tables.{Labelled, Grouped}
 use Rattle.said.specs.declared.layout.Layout.{Layout}
@@ -46,7 +47,7 @@ module _ (z : Size) (t K ts es ps : List ℕ) {us fs qs : List ℕ} where
   -- the pairs do not fit
   pub refused_outcome : {same : ℕ} → same ≡ length (same_pairs z.individuals K) → length ps < 2 * same
       → us ≡ replicate (length ts) 0 → fs ≡ replicate (length es) 0 → qs ≡ replicate (length ps) 0
-      → came (refused 11) us fs qs ≡ finishing z t K ts es ps
+      → came (refused ShortPairList) us fs qs ≡ finishing z t K ts es ps
   refused_outcome e l a b c = rw (← e, lt-ltb _ _ l, a, b, c) refl
 
   -- they fit

@@ -1,8 +1,8 @@
 -- The loops that count what is gathered.
 use Prim.Native.Nat.{ℕ, ◌+◌, ◌*◌, ◌<◌, ◌≤◌, min}
 use native.Mathlib.Omega.{arith}
-use mathlib.Core.Path.{◌≡◌, refl}
-use mathlib.Core.Bool.{Bool, true, ◌&&◌}
+use mathlib.Core.Path.{◌≡◌, refl, ap}
+use mathlib.Core.Bool.{Bool, false, ◌&&◌}
 use mathlib.Core.List.{List, [], ◌∷◌}
 use lib.ListN.{length, get_or, length-append}
 use lib.Dec.{ltb}
@@ -10,33 +10,32 @@ use Rattle.rows.specs.Row.{has, Scan}
 use Rattle.rules.specs.Fact.{two}
 use Rattle.rules.specs.Lists.{gather, only}
 use Rattle.verdict.specs.Listing.{behind_of, pairs_of_lem}
-use Rattle.verdict.proofs.list.Gathers.{gather_more, gather_few, gather_many, only_true, only_false, scan_start, scan_more}
+use Rattle.verdict.proofs.list.Gathers.{gather_more, gather_over, gather_few, gather_many, only_true, only_false}
 
--- i is count and the members below b and n, and b is a member if it is below n
-pub record Counted (m : ℕ → Bool) (n count b i : ℕ) : Type 0 where
-  pub tally : i ≡ count + length (gather (min b n) (λ k. only (m k) k))
-  pub hit : b < n → m b ≡ true
+-- i is count and the members below p and n
+pub record Counted (m : ℕ → Bool) (n count p i : ℕ) : Type 0 where
+  pub tally : i ≡ count + length (gather (min p n) (λ k. only (m k) k))
 
 module _ {m : ℕ → Bool} {n count : ℕ} where
   -- none yet, and one more
-  pub counted_start : {r : ℕ} → Scan m 0 n r → Counted m n count r count
-  counted_start {r} s = record { tally = rw (scan_start (λ k. only (m k) k) (λ k l e. only_false k e) s) (omega arith); hit = s.hit }
+  pub counted_start : (p : ℕ) → ((k : ℕ) → k < p → m k ≡ false) → Counted m n count p count
+  counted_start p h = record { tally = rw (gather_over 0 (min p n) (λ k. only (m k) k) (omega arith) (λ k a l. only_false k (h k (omega arith)))) (omega arith) }
 
-  module _ {b i : ℕ} (c : Counted m n count b i) where
-    pub counted_more : b < n → {r : ℕ} → Scan m (b + 1) n r → Counted m n count r (i + 1)
-    counted_more l {r} s = record {
-      tally = rw (scan_more (λ k. only (m k) k) (λ k l e. only_false k e) l s, only_true b (c.hit l)) (omega (arith, c.tally, length-append (gather (min b n) (λ k. only (m k) k)) (b ∷ [])));
-      hit = s.hit;
-    }
+  module _ {p i : ℕ} (c : Counted m n count p i) where
+    pub counted_more : {b : ℕ} → Scan m p n b → b < n → Counted m n count (b + 1) (i + 1)
+    counted_more {b} s l =
+        let q : min (b + 1) n ≡ b + 1 = omega arith in
+        let r : min p n ≡ p = omega (arith, s.ge) in
+        record { tally = rw (q, gather_more b (λ k. only (m k) k), gather_over p b (λ k. only (m k) k) s.ge (λ k a h. only_false k (s.gap k a h)), only_true b (s.hit l)) (omega (arith, rw r at c.tally, length-append (gather p (λ k. only (m k) k)) (b ∷ []))) }
 
     -- at most n of them, and at the end all
     pub counted_few : i ≤ count + n
-    counted_few = omega (arith, c.tally, gather_few (min b n) m (λ k. k))
+    counted_few = omega (arith, c.tally, gather_few (min p n) m (λ k. k))
 
-    pub counted_all : {A : Type 0} (x : ℕ → A) → n ≤ b → i ≡ count + length (gather n (λ k. only (m k) (x k)))
-    counted_all x l =
-        let e : min b n ≡ n = omega arith in
-        omega (arith, rw e at c.tally, gather_many n m (λ k. k) x)
+    pub counted_all : {A : Type 0} (x : ℕ → A) → Scan m p n n → i ≡ count + length (gather n (λ k. only (m k) (x k)))
+    counted_all x s =
+        let r : min p n ≡ p = omega (arith, s.ge) in
+        omega (arith, rw r at c.tally, ap length (gather_over p n (λ k. only (m k) k) s.ge (λ k a h. only_false k (s.gap k a h))), gather_many n m (λ k. k) x)
 
 -- count is how many pairs the first i individuals have with those behind them, at most 512 each
 pub record CountedPairs (K G : List ℕ) (n i count : ℕ) : Type 0 where

@@ -1,6 +1,6 @@
 -- What is gathered: one number more, gaps, scans, and how much it is.
-use Prim.Native.Nat.{ℕ, zero, suc, ◌+◌, ◌<◌, ◌≤◌, min}
-use native.Mathlib.Decide.{ℕ_discrete, dec_lt}
+use Prim.Native.Nat.{ℕ, zero, suc, ◌+◌, ◌<◌, ◌≤◌}
+use native.Mathlib.Decide.{ℕ_discrete}
 use native.Mathlib.Numerals.{add-one}
 use native.Mathlib.Omega.{arith}
 use mathlib.Core.Path.{◌≡◌, refl, ap, sym, ◌∙◌}
@@ -63,28 +63,12 @@ gather_many n m x y =
     ∙ sym (length_gather n (λ k. only (m k) (y k)))
 
 -- a scan from behind a number on is one of the members behind it
-pub scan_behind : {m : ℕ → Bool} (first : ℕ) {n r : ℕ} → Scan m (first + 1) n r → Scan (λ b. ltb first b && m b) 0 n r
-scan_behind {m} first {n} {r} s = record { ge = omega arith; gap = λ i a l. go i l (dec_lt first i); hit = λ l. and_intro (ltb first r) (m r) (lt-ltb first r (omega (arith, s.ge))) (s.hit l) }
-  where
-    go : (i : ℕ) → i < r → Dec (first < i) → (ltb first i && m i) ≡ false
-    go i l (yes q) = rw (s.gap i (omega arith) l) (and-false (ltb first i))
-    go i l (no q) = ap (λ (b : Bool). b && m i) (le-ltb first i (omega arith))
+pub none_behind : (m : ℕ → Bool) (first k : ℕ) → k < first + 1 → (ltb first k && m k) ≡ false
+none_behind m first k l = ap (λ (b : Bool). b && m k) (le-ltb first k (omega arith))
 
-pub scan_on : {m : ℕ → Bool} (first : ℕ) {b n r : ℕ} → first < b → Scan m (b + 1) n r → Scan (λ b. ltb first b && m b) (b + 1) n r
-scan_on {m} first {b} {n} {r} h s = record {
+pub scan_behind : {m : ℕ → Bool} {first p n r : ℕ} → first < p → Scan m p n r → Scan (λ b. ltb first b && m b) p n r
+scan_behind {m} {first} {p} {n} {r} h s = record {
   ge = s.ge;
   gap = λ i a l. ap (λ (x : Bool). ltb first i && x) (s.gap i a l) ∙ and-false (ltb first i);
   hit = λ l. and_intro (ltb first r) (m r) (lt-ltb first r (omega (arith, s.ge))) (s.hit l);
 }
-
--- ---- a scan from member to member of m, where f gives nothing for a number that is none
-
-module _ {A : Type 0} {m : ℕ → Bool} {n : ℕ} (f : ℕ → List A) (none : (k : ℕ) → k < n → m k ≡ false → f k ≡ []) where
-  -- nothing before the first member, and b's share between b and the next member
-  pub scan_start : {r : ℕ} → Scan m 0 n r → gather (min r n) f ≡ []
-  scan_start {r} s = gather_over 0 (min r n) f (omega arith) (λ k a l. none k (omega arith) (s.gap k (omega arith) (omega arith)))
-
-  pub scan_more : {b r : ℕ} → b < n → Scan m (b + 1) n r → gather (min r n) f ≡ gather (min b n) f ++ f b
-  scan_more {b} {r} l s =
-      let e : min b n ≡ b = omega arith in
-      gather_over (b + 1) (min r n) f (omega (arith, s.ge)) (λ k a q. none k (omega arith) (s.gap k a (omega arith))) ∙ gather_more b f ∙ rw e refl

@@ -9,7 +9,7 @@ use Rattle.rows.specs.Row.{Scan}
 use Rattle.rules.specs.Fact.{Two, Three}
 use Rattle.rules.specs.Lists.{gather, only, entries2, entries3}
 use Rattle.verdict.specs.Listing.{Written}
-use Rattle.verdict.proofs.list.Gathers.{gather_more, gather_plus, only_true, only_false, scan_start, scan_more}
+use Rattle.verdict.proofs.list.Gathers.{gather_more, gather_plus, gather_over, only_true}
 use Rattle.verdict.proofs.list.Writing.{written_none, written_then, written_as}
 
 -- e lays rows out as entries, one row after the other
@@ -76,40 +76,39 @@ module _ {A : Type 0} {e : List A → List ℕ} (y : Lays e) {f : ℕ → List A
       pub rows_end : length (e (gather n f)) ≤ length l → i ≤ length o
       rows_end r = let w = rows_all in omega arith
 
--- ---- a loop from member to member of m: what f gives for those below b and n was written, and b is a member if it is below n
+-- ---- a loop over the members of m: what f gives for those below p and n was written
 
-pub record Listed {A : Type 0} (e : List A → List ℕ) (f : ℕ → List A) (m : ℕ → Bool) (n : ℕ) (l : List ℕ) (at b : ℕ) (o : List ℕ) (i : ℕ) : Type 0 where
-  pub written : Written l at (e (gather (min b n) f)) o i
-  pub hit : b < n → m b ≡ true
+pub record Listed {A : Type 0} (e : List A → List ℕ) (f : ℕ → List A) (n : ℕ) (l : List ℕ) (at p : ℕ) (o : List ℕ) (i : ℕ) : Type 0 where
+  pub written : Written l at (e (gather (min p n) f)) o i
 
-module _ {A : Type 0} {e : List A → List ℕ} (y : Lays e) {m : ℕ → Bool} {n : ℕ} {l : List ℕ} {at : ℕ} where
-  module _ {f : ℕ → List A} (none : (k : ℕ) → k < n → m k ≡ false → f k ≡ []) where
-    -- none yet, and one member more
-    pub listed_start : {r : ℕ} → Scan m 0 n r → Listed e f m n l at r l at
-    listed_start s = record { written = written_as (sym (ap e (scan_start f none s) ∙ y.none)) written_none; hit = s.hit }
+module _ {A : Type 0} {e : List A → List ℕ} (y : Lays e) {n : ℕ} {l : List ℕ} {at : ℕ} {f : ℕ → List A} where
+  -- where f gives nothing below p
+  pub listed_start : (p : ℕ) → ((k : ℕ) → k < p → f k ≡ []) → Listed e f n l at p l at
+  listed_start p h = record { written = written_as (sym (ap e (gather_over 0 (min p n) f (omega arith) (λ k a q. h k (omega arith))) ∙ y.none)) written_none }
 
-    pub listed_more : {b i : ℕ} {o : List ℕ} → Listed e f m n l at b o i → b < n → {p : List ℕ} {j r : ℕ} → Written o i (e (f b)) p j → Scan m (b + 1) n r → Listed e f m n l at r p j
-    listed_more {b} d h w s = record {
-      written = written_as (sym (ap e (scan_more f none h s) ∙ y.append (gather (min b n) f) (f b))) (written_then d.written w);
-      hit = s.hit;
-    }
+  -- one member more, and room for it
+  pub listed_more : {b i : ℕ} {o : List ℕ} → Listed e f n l at b o i → b < n → {p : List ℕ} {j : ℕ} → Written o i (e (f b)) p j → Listed e f n l at (b + 1) p j
+  listed_more {b} d h w =
+      let q : min (b + 1) n ≡ b + 1 = omega arith in
+      let r : min b n ≡ b = omega arith in
+      record { written = written_as (rw q (sym (ap e (gather_more b f) ∙ y.append (gather b f) (f b)))) (written_then (rw r at d.written) w) }
 
-  module _ {f : ℕ → List A} {b i : ℕ} {o : List ℕ} (d : Listed e f m n l at b o i) where
-    -- room for the member b, and at the end all were written
-    pub listed_room : at + length (e (gather n f)) ≤ length l → b < n → i + length (e (f b)) ≤ length o
-    listed_room r h = let q : min b n ≡ b = omega arith in room y f b (rw q at d.written) n r h
+  pub listed_room : {b i : ℕ} {o : List ℕ} → Listed e f n l at b o i → at + length (e (gather n f)) ≤ length l → b < n → i + length (e (f b)) ≤ length o
+  listed_room {b} d r h = let q : min b n ≡ b = omega arith in room y f b (rw q at d.written) n r h
 
-    pub listed_all : n ≤ b → Written l at (e (gather n f)) o i
-    listed_all h = let q : min b n ≡ n = omega arith in rw q at d.written
+  module _ {m : ℕ → Bool} (none : (k : ℕ) → k < n → m k ≡ false → f k ≡ []) {p i : ℕ} {o : List ℕ} (d : Listed e f n l at p o i) where
+    -- up to the next member
+    pub listed_to : {r : ℕ} → Scan m p n r → r ≤ n → Listed e f n l at r o i
+    listed_to {r} s h = record { written = written_as (sym (ap e (gather_over (min p n) (min r n) f (omega (arith, s.ge)) (λ k a q. none k (omega arith) (s.gap k (omega (arith, s.ge)) (omega arith)))))) d.written }
 
-  -- so with one row for each member
-  module _ (x : ℕ → A) where
-    pub members_start : {r : ℕ} → Scan m 0 n r → Listed e (λ k. only (m k) (x k)) m n l at r l at
-    members_start s = listed_start (λ k h q. only_false (x k) q) s
+    -- and where none is left
+    pub listed_all : ((k : ℕ) → p ≤ k → k < n → m k ≡ false) → Written l at (e (gather n f)) o i
+    listed_all g = written_as (sym (ap e (gather_over (min p n) n f (omega arith) (λ k a q. none k q (g k (omega arith) q))))) d.written
 
-    module _ {b i : ℕ} {o : List ℕ} (d : Listed e (λ k. only (m k) (x k)) m n l at b o i) (h : b < n) where
-      pub members_more : {p : List ℕ} {j r : ℕ} → Written o i (e (x b ∷ [])) p j → Scan m (b + 1) n r → Listed e (λ k. only (m k) (x k)) m n l at r p j
-      members_more w s = listed_more (λ k h q. only_false (x k) q) d h (written_as (ap e (sym (only_true (x b) (d.hit h)))) w) s
+-- so with one row for each member
+module _ {A : Type 0} {e : List A → List ℕ} (y : Lays e) {n : ℕ} {l : List ℕ} {at : ℕ} (m : ℕ → Bool) (x : ℕ → A) {b i : ℕ} {o : List ℕ} (d : Listed e (λ k. only (m k) (x k)) n l at b o i) (h : b < n) (t : m b ≡ true) where
+  pub members_more : {p : List ℕ} {j : ℕ} → Written o i (e (x b ∷ [])) p j → Listed e (λ k. only (m k) (x k)) n l at (b + 1) p j
+  members_more w = listed_more y d h (written_as (ap e (sym (only_true (x b) t))) w)
 
-      pub members_room : at + length (e (gather n (λ k. only (m k) (x k)))) ≤ length l → i + length (e (x b ∷ [])) ≤ length o
-      members_room r = rw (only_true (x b) (d.hit h)) at (listed_room d r h)
+  pub members_room : at + length (e (gather n (λ k. only (m k) (x k)))) ≤ length l → i + length (e (x b ∷ [])) ≤ length o
+  members_room r = rw (only_true (x b) t) at (listed_room y d r h)

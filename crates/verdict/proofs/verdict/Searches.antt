@@ -54,34 +54,28 @@ past_found f c n l a b = sym (some_any n f c l (sym a ∙ b))
 
 -- ---- a loop over the numbers that pass f, up to one that passes g
 
--- none below d passes both f and g, and d, if it is below n, passes f
-pub record Sought (f g : ℕ → Bool) (n d : ℕ) : Type 0 where
-  pub past : Past (λ x. f x && g x) 0 d
-  pub hit : d < n → f d ≡ true
+past_to : (f g : ℕ → Bool) {n p d : ℕ} → Past (λ x. f x && g x) 0 p → Scan f p n d → Past (λ x. f x && g x) 0 d
+past_to f g {n} {p} {d} s z = record { ge = omega arith; gap = λ j l m. go j m (dec_lt j p) }
+  where
+    go : (j : ℕ) → j < d → Dec (j < p) → (f j && g j) ≡ false
+    go j m (yes l) = s.gap j (omega arith) l
+    go j m (no l) = rw (z.gap j (omega arith) m)
 
-module _ {f g : ℕ → Bool} {n d : ℕ} where
-  -- d is the first that passes f
-  pub sought_first : Scan f 0 n d → Sought f g n d
-  sought_first s = record { past = record { ge = omega arith; gap = λ j l m. rw (s.gap j l m) }; hit = s.hit }
+-- none below p passes both f and g
+abbrev pub Sought : (ℕ → Bool) → (ℕ → Bool) → ℕ → Type 0
+Sought f g p = Past (λ x. f x && g x) 0 p
 
-  -- d does not pass g, as r says, and e is the next that passes f
-  pub sought_next : {r : Bool} {e : ℕ} → Sought f g n d → r ≡ g d → r ≡ false → Scan f (d + 1) n e → Sought f g n e
-  sought_next {r} {e} s a b z = record { past = record { ge = omega arith; gap = λ j l m. go j m (dec_lt j (d + 1)) }; hit = z.hit }
-    where
-      stop : Past (λ x. f x && g x) 0 (d + 1)
-      stop = past_more s.past refl (and_not (f d) (g d) (sym a ∙ b))
+-- the next that passes f, which is d, does not pass g, as r says
+pub sought_next : (f g : ℕ → Bool) {n p d : ℕ} {r : Bool} → Sought f g p → Scan f p n d → r ≡ g d → r ≡ false → Sought f g (d + 1)
+sought_next f g {n} {p} {d} s z a b = past_more (past_to f g s z) refl (and_not (f d) (g d) (sym a ∙ b))
 
-      go : (j : ℕ) → j < e → Dec (j < d + 1) → (f j && g j) ≡ false
-      go j m (yes l) = stop.gap j (omega arith) l
-      go j m (no l) = rw (z.gap j (omega arith) m)
+-- none is left
+pub sought_end : (f g : ℕ → Bool) {n p : ℕ} → Sought f g p → Scan f p n n → false ≡ any n (λ x. f x && g x)
+sought_end f g s z = past_end (past_to f g s z) (omega arith)
 
-  -- none is left
-  pub sought_end : Sought f g n d → n ≤ d → false ≡ any n (λ x. f x && g x)
-  sought_end s l = past_end s.past l
-
-  -- d passes g, as r says
-  pub sought_found : {r : Bool} → Sought f g n d → d < n → r ≡ g d → r ≡ true → true ≡ any n (λ x. f x && g x)
-  sought_found s l a b = sym (some_any n (λ x. f x && g x) d l (and_intro (f d) (g d) (s.hit l) (sym a ∙ b)))
+-- it passes g, as r says
+pub sought_found : (f g : ℕ → Bool) {n d : ℕ} {r : Bool} → d < n → f d ≡ true → r ≡ g d → r ≡ true → true ≡ any n (λ x. f x && g x)
+sought_found f g {n} {d} l h a b = sym (some_any n (λ x. f x && g x) d l (and_intro (f d) (g d) h (sym a ∙ b)))
 
 -- whether two tests have a number in common, as one test
 pub meets_any : {f g : ℕ → Bool} {n : ℕ} {r : Bool} → Meets f g n r → r ≡ any n (λ i. f i && g i)

@@ -1,45 +1,16 @@
 -- The words that are allotted are enough: as for a run, with room for one chain more.
 use Prim.Native.Nat.{ℕ, ◌+◌, ◌*◌, ◌≤◌}
 use native.Mathlib.Omega.{arith}
-use mathlib.Core.Path.{refl}
-use mathlib.Core.List.{List}
-use lib.ListN.{length, replicate}
 use Rattle.book.specs.Header.{Limits}
 use Rattle.book.specs.declared.header.Counts.{Counts}
-use Rattle.tables.specs.Tables.{Blank}
-use Rattle.saturation.specs.Run.{Lent, Fresh, Small, rows_of}
-use Rattle.saturation.proofs.allot.Words.{within, small_fresh, large_fresh}
+use Rattle.saturation.specs.Run.{Holding, Small, rows_of}
+use Rattle.saturation.proofs.allot.Words.{small_holding, large_holding}
 
-abbrev pub small_lent : Lent
-small_lent = record { says = replicate 1416 0; chains = replicate 260 0; taken = 0; labels = replicate 16 0; links = replicate 512 0; used = 0 }
+longer : {h : Counts} {t s c l k : ℕ} → Holding h t s c l k → (d : ℕ) → c ≤ d → d ≤ 16388 → Holding h t s d l k
+longer e d m n = record { links = e.links; says = e.says; chains = omega (arith, e.chains); labels = e.labels; leaves = e.leaves; most = (e.most.0, e.most.1, n, e.most.3, e.most.4) }
 
-abbrev pub large_lent : List ℕ → Lent
-large_lent t = record { says = replicate 75784 0; chains = replicate 16388 0; taken = 0; labels = replicate 512 0; links = t; used = 0 }
+pub small_longer : {h : Counts} → Small h → rows_of h ≤ 64 → Holding h 512 1416 260 16 64 × (h.statements * 4 + 4 ≤ 260)
+small_longer s m = (longer (small_holding s m) 260 (omega arith) (omega arith), omega (arith, s.statements))
 
-pub small_chain : (h : Counts) → Small h → h.statements * 4 + 4 ≤ length (replicate {A = ℕ} 260 0)
-small_chain h s = within 260 (h.statements * 4 + 4) (omega (arith, s.statements))
-
-pub large_chain : {h : Counts} → Limits h → h.statements * 4 + 4 ≤ length (replicate {A = ℕ} 16388 0)
-large_chain {h} l = within 16388 (h.statements * 4 + 4) (omega (arith, l.statements_top))
-
-pub small_lent_lem : (h : Counts) → Small h → rows_of h ≤ 64 → Fresh h small_lent
-small_lent_lem h s l =
-    let f = small_fresh h s l in
-    record {
-      room = record { rows = f.room.rows; chains = within 260 (h.statements * 4) (omega (arith, s.statements)); labels = f.room.labels; links = f.room.links };
-      says = f.says;
-      taken = refl;
-      links = f.links;
-      used = refl;
-    }
-
-pub large_lent_lem : {h : Counts} {t : List ℕ} → Limits h → Blank t → rows_of h * 8 ≤ length t → Fresh h (large_lent t)
-large_lent_lem {h} {t} l b r =
-    let f = large_fresh l b r in
-    record {
-      room = record { rows = f.room.rows; chains = within 16388 (h.statements * 4) (omega (arith, l.statements_top)); labels = f.room.labels; links = f.room.links };
-      says = f.says;
-      taken = refl;
-      links = f.links;
-      used = refl;
-    }
+pub large_longer : {h : Counts} {t : ℕ} → Limits h → rows_of h * 8 ≤ t → t ≤ 531480 → Holding h t 75784 16388 512 4096 × (h.statements * 4 + 4 ≤ 16388)
+large_longer s m n = (longer (large_holding s m n) 16388 (omega arith) (omega arith), omega (arith, s.statements_top))

@@ -1,16 +1,13 @@
--- `parts_at` meets its contract. The invariant: the parts below k are passed and end here.
-use native.Mathlib.Omega.{arith}
-use Rattle.book.proofs.concept.Ways.{none_passed, parts_refused, parts_again, parts_done}
+-- `parts_at` meets its contract. The invariant: the parts so far are passed and end here.
+use Rattle.book.proofs.Stops.{stops_passed}
+use Rattle.book.proofs.concept.Ways.{none_passed, parts_refused, parts_again}
 use Rattle.book.proofs.concept.parts_at.Goals as goal
 
-pub loop-k-init : goal.loop-k-init
-loop-k-init c = (none_passed _ _ _, omega arith)
+pub loop-init : goal.loop-init
+loop-init c = none_passed _ _ _
 
-pub returns-in-Refused : goal.returns-in-Refused
-returns-in-Refused c = parts_refused _ _ _ _ _ c.loop-k.invariant.0 _ _ _ c.loop-k-test.true c.field_at-read.ensures c.in-Refused.is
+pub returns-in_err-next : goal.returns-in_err-next
+returns-in_err-next c = stops_passed _ _ _ c.from_residual.ensures.1 (parts_refused _ _ _ _ _ c.loop.invariant _ _ c.loop-test.true c.in_err-next.ensures)
 
-pub loop-k-preserved : goal.loop-k-preserved
-loop-k-preserved c = (parts_again _ _ _ _ _ c.loop-k.invariant.0 _ _ _ c.field_at-read.ensures c.in-Next.is, omega arith)
-
-pub returns : goal.returns
-returns c = parts_done _ _ _ _ _ _ c.loop-k.invariant.0 c.loop-k.invariant.1 c.loop-k-test.false
+pub loop-preserved : goal.loop-preserved
+loop-preserved c = parts_again _ _ _ _ _ c.loop.invariant _ _ c.in_ok-next.ensures

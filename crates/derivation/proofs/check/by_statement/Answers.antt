@@ -9,10 +9,10 @@ pub returns-in_default : goal.returns-in_default
 returns-in_default c = statement_end_law c.requires c.args.row c.args.f c.args.p c.if-k-counts.false c.next_statement-turn.ensures c.in_default.is
 
 pub order_fits-requires : goal.order_fits-requires
-order_fits-requires c = record { concepts = c.requires.concepts; within = statement_within c.requires c.args.row c.args.f c.args.p c.if-k-counts.false c.next_statement-turn.ensures c.in-Next.is }
+order_fits-requires c = record { concepts = c.requires.concepts; within = statement_within c.requires c.args.row c.args.f c.args.p c.if-k-counts.false c.next_statement-turn.ensures c.in-Some.is }
 
 pub returns-then-rule_number-row : goal.returns-then-rule_number-row
-returns-then-rule_number-row c = statement_one c.requires c.args.row c.args.f c.args.p c.if-k-counts.false c.next_statement-turn.ensures c.in-Next.is c.rule_number.ensures c.if-rule_number-row.true (c.order_fits.ensures (book_of c.args.book.now) c.requires.of)
+returns-then-rule_number-row c = statement_one c.requires c.args.row c.args.f c.args.p c.if-k-counts.false c.next_statement-turn.ensures c.in-Some.is c.rule_number.ensures c.if-rule_number-row.true (c.order_fits.ensures (book_of c.args.book.now) c.requires.of)
 
 pub returns : goal.returns
-returns c = statement_other c.requires c.args.row c.args.f c.args.p c.if-k-counts.false c.next_statement-turn.ensures c.in-Next.is c.rule_number.ensures c.if-rule_number-row.false
+returns c = statement_other c.requires c.args.row c.args.f c.args.p c.if-k-counts.false c.next_statement-turn.ensures c.in-Some.is c.rule_number.ensures c.if-rule_number-row.false

@@ -1,7 +1,5 @@
-use Prim.Native.Nat.{◌/◌}
 use native.Mathlib.Omega.{arith}
-use mathlib.Core.Path.{◌≡◌, sym, ◌∙◌}
-use lib.ListN.{length}
+use mathlib.Core.Path.{sym, ◌∙◌}
 use Rattle.tables.specs.Open.{book_of}
 use Rattle.derivation.proofs.Stand.{stands_all, stands_stopped}
 use Rattle.derivation.proofs.Checking.{accepted_more}
@@ -17,9 +15,6 @@ accept-yes-requires c = record { ready = c.requires; k_in_bounds = omega (arith,
 pub returns-then-not-yes : goal.returns-then-not-yes
 returns-then-not-yes c = sym (stands_stopped (book_of c.args.book.now) c.args.rows.now c.loop-k.k c.loop-k.invariant.0 c.loop-k.invariant.1 (sym c.accept-yes.ensures ∙ not-true _ c.if-not-yes.true-raw))
 
-pub overflow_add-k : goal.overflow_add-k
-overflow_add-k c = omega (arith, c.loop-k-test.true)
-
 pub loop-k-smaller : goal.loop-k-smaller
 loop-k-smaller c = omega arith
 
@@ -27,6 +22,4 @@ pub loop-k-preserved : goal.loop-k-preserved
 loop-k-preserved c = (omega arith, accepted_more (book_of c.args.book.now) c.args.rows.now c.loop-k.k c.loop-k.invariant.1 c.accept-yes.ensures (not-false _ c.if-not-yes.false-raw))
 
 pub returns : goal.returns
-returns c =
-    let e : c.loop-k.k ≡ length c.args.rows.now / 9 = omega arith in
-    e ∙ sym (stands_all (book_of c.args.book.now) c.args.rows.now (λ j l. c.loop-k.invariant.1 j (omega arith)))
+returns c = sym (stands_all (book_of c.args.book.now) c.args.rows.now (λ j l. c.loop-k.invariant.1 j (omega arith)))

@@ -17,9 +17,6 @@ returns-then-denies_at c =
     denial_found c.args.book.now c.args.counts c.args.starts.now c.requires.starts c.requires.statements_in_bounds.1 c.loop-k.k
     (omega (arith, c.loop-k-test.true)) c.denies_at.ensures c.if-denies_at.true
 
-pub overflow_add-k : goal.overflow_add-k
-overflow_add-k c = omega arith
-
 pub loop-k-smaller : goal.loop-k-smaller
 loop-k-smaller c = omega arith
 

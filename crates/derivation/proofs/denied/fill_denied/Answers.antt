@@ -12,9 +12,6 @@ bounds-starts-k c = omega (arith, c.loop-k-test.true, c.requires.statements_in_b
 pub put_at-here-requires : goal.put_at-here-requires
 put_at-here-requires c = record { limits = c.requires.limits; labels_of = c.requires.labels_of; in_bounds = omega (arith, c.loop-k.invariant.1, c.requires.in_bounds.0) }
 
-pub overflow_add-k : goal.overflow_add-k
-overflow_add-k c = omega (arith, c.loop-k-test.true)
-
 pub loop-k-smaller : goal.loop-k-smaller
 loop-k-smaller c = omega (arith, c.loop-k-test.true)
 

@@ -8,10 +8,10 @@ pub returns-in_default : goal.returns-in_default
 returns-in_default c = put_end_lem c.args.book.now c.args.counts c.args.at c.next_statement-turn.ensures c.in_default.is
 
 pub put_denied-requires : goal.put_denied-requires
-put_denied-requires c = record { limits = (c.requires.limits.0, c.requires.limits.1, (turn_within _ _ _ _ _ (sym c.next_statement-turn.ensures ∙ c.in-Next.is)).body); in_bounds = c.requires.in_bounds }
+put_denied-requires c = record { limits = (c.requires.limits.0, c.requires.limits.1, (turn_within _ _ _ _ _ (sym c.next_statement-turn.ensures ∙ c.in-Some.is)).body); in_bounds = c.requires.in_bounds }
 
 pub returns : goal.returns
 returns c =
     put_next c.args.book.now c.args.counts c.args.at c.next_statement-turn.ensures
-    c.in-Next.is c.put_denied.ensures.with_denied
+    c.in-Some.is c.put_denied.ensures.with_denied
     (c.put_denied.ensures.value (book_of c.args.book.now) c.requires.labels_of)

@@ -21,17 +21,9 @@ pub bounds-book-at : goal.bounds-book-at
 unfolding next_at
 bounds-book-at c = omega arith
 
-pub overflow_mul-result : goal.overflow_mul-result
-unfolding next_at
-overflow_mul-result c = let f = c.numbers_of.ensures ∙ ap (λ (n : ℕ). numbers_of_lem (get_or c.args.book.now c.args.at 0) (n % 256)) c.number_at-map.ensures in omega (arith, c.requires, c.number_at-map.ensures, f)
-
 pub overflow_add-result-2 : goal.overflow_add-result-2
 unfolding next_at
 overflow_add-result-2 c = let f = c.numbers_of.ensures ∙ ap (λ (n : ℕ). numbers_of_lem (get_or c.args.book.now c.args.at 0) (n % 256)) c.number_at-map.ensures in omega (arith, c.requires, c.number_at-map.ensures, f)
-
-pub overflow_mul-result-2 : goal.overflow_mul-result-2
-unfolding next_at
-overflow_mul-result-2 c = let f = c.numbers_of.ensures ∙ ap (λ (n : ℕ). numbers_of_lem (get_or c.args.book.now c.args.at 0) (n % 256)) c.number_at-map.ensures in let g = c.marks_of.ensures ∙ ap (λ (n : ℕ). marks_of_lem n) c.number_at-map.ensures in omega (arith, c.requires, c.number_at-map.ensures, f, g)
 
 pub overflow_add-result-3 : goal.overflow_add-result-3
 unfolding next_at

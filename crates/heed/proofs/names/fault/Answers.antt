@@ -1,15 +1,9 @@
 -- `fault` meets its contract.
-use Rattle.heed.proofs.Ways.{fault_unnamed, fault_14, fault_15, fault_none}
+use Rattle.heed.proofs.Laws.{fault_14, fault_15}
 use Rattle.heed.proofs.names.fault.Goals as goal
 
-pub returns-then-not-named : goal.returns-then-not-named
-returns-then-not-named c = search fault_unnamed
+pub returns-then-reader-gt31 : goal.returns-then-reader-gt31
+returns-then-reader-gt31 c = fault_14 _ _ c.in-Some.is c.if-reader-gt31.true
 
-pub returns-then-names-gt31 : goal.returns-then-names-gt31
-returns-then-names-gt31 c = search fault_14
-
-pub returns-then-table-ne1024 : goal.returns-then-table-ne1024
-returns-then-table-ne1024 c = search fault_15
-
-pub returns : goal.returns
-returns c = search fault_none
+pub returns-then-reader-ne1024 : goal.returns-then-reader-ne1024
+returns-then-reader-ne1024 c = fault_15 _ _ c.in-Some.is c.if-reader-gt31.false c.if-reader-ne1024.true

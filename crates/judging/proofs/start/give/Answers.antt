@@ -31,7 +31,7 @@ returns-in-Inner c =
     (c.compose.ensures.len, gave_inner c.args.counts c.requires.table c.args.way c.args.rows.now c.args.p c.args.acc.now c.in-Inner.r _ _ c.in-Inner.is r (rw (q, c.size_of-size.ensures) at c.compose.ensures))
 
 pub returns-in-Every : goal.returns-in-Every
-returns-in-Every c = (c.meet.ensures.len, gave_every c.args.counts c.requires.table c.args.way c.args.rows.now c.args.p c.args.acc.now _ _ c.in-Every.is c.meet.ensures)
+returns-in-Every c = (c.meet.ensures.len, gave_every c.args.counts c.requires.table c.args.way c.args.rows.now c.args.p c.args.acc.now _ _ c.in-Every.is (record { len = c.meet.ensures.len; row = c.meet.ensures.all }))
 
 pub returns-in-Any : goal.returns-in-Any
 returns-in-Any c = (c.gather.ensures.len, gave_any c.args.counts c.requires.table c.args.way c.args.rows.now c.args.p c.args.acc.now _ _ c.in-Any.is c.gather.ensures)

@@ -1,14 +1,14 @@
 use Rattle.listing.proofs.Running.{fit_none, fit_few}
-use Rattle.book.specs.Header.{as_header}
+use Rattle.book.specs.Read.{as_read}
 use native.Mathlib.Omega.{arith}
 use mathlib.Core.Path.{ap, sym, ◌∙◌}
 use Rattle.listing.proofs.run.pairs_wanted.Goals as goal
 
 pub returns-in_default : goal.returns-in_default
-returns-in_default c = (λ e. fit_none _ (sym c.header_at-head.ensures ∙ ap as_header c.in_default.is), omega arith)
+returns-in_default c = (λ e. fit_none _ (sym c.header_at.ensures ∙ ap as_read c.in_default.is), omega arith)
 
 pub returns-then-counts-gt16 : goal.returns-then-counts-gt16
 returns-then-counts-gt16 c = (λ e. absurd (omega arith), omega arith)
 
 pub returns : goal.returns
-returns c = (λ e. fit_few _ (sym c.header_at-head.ensures ∙ ap as_header c.in-Next.is) (omega (arith, c.if-counts-gt16.false)), omega arith)
+returns c = (λ e. fit_few _ (sym c.header_at.ensures ∙ ap as_read c.in-Ok.is) (omega (arith, c.if-counts-gt16.false)), omega arith)

@@ -9,7 +9,7 @@ use Rattle.small.proofs.small.book_of_one.Goals as goal
 
 pub put_statement-requires : goal.put_statement-requires
 unfolding header_bytes
-put_statement-requires c = rw c.front.ensures (search rules, omega arith)
+put_statement-requires c = rw c.front-book.ensures (search rules, omega arith)
 
 pub returns : goal.returns
-returns c = rw (c.put_statement.ensures, c.front.ensures) (laid_one (statement_at_lem c.args.i) (statement_at_short c.args.i (search rules)))
+returns c = rw (c.put_statement.ensures, c.front-book.ensures) (laid_one (statement_at_lem c.args.i) (statement_at_short c.args.i (search rules)))

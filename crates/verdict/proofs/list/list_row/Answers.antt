@@ -1,20 +1,13 @@
 use native.Mathlib.Omega.{arith}
+use Prim.Native.Nat.{◌+◌, ◌*◌}
+use mathlib.Core.Path.{◌≡◌}
 use Rattle.rules.proofs.Ended.{length_entries2}
 use Rattle.verdict.proofs.list.Rows.{lays_two}
-use Rattle.verdict.proofs.list.Words.{words_start, words_more, words_room, words_all}
+use Rattle.verdict.proofs.list.Words.{words_more, words_room}
 use Rattle.verdict.proofs.list.list_row.Goals as goal
 
-pub loop-w-init : goal.loop-w-init
-loop-w-init c = words_start lays_two
-
-pub list_word-i-requires : goal.list_word-i-requires
-list_word-i-requires c = record { n_in_bounds = omega (arith, c.loop-w.invariant.start); n_in_bounds_2 = rw length_entries2 at (words_room lays_two c.loop-w.invariant (rw length_entries2 c.requires.n_in_bounds_2) c.loop-w-test.true) }
+pub list_word-i-requires-clause-n_in_bounds_2 : goal.list_word-i-requires-clause-n_in_bounds_2
+list_word-i-requires-clause-n_in_bounds_2 c = rw length_entries2 at (words_room lays_two c.loop-w.invariant (rw length_entries2 c.requires.n_in_bounds_2) (omega arith))
 
 pub loop-w-preserved : goal.loop-w-preserved
-loop-w-preserved c = words_more lays_two c.loop-w.invariant c.loop-w-test.true c.list_word-i.ensures
-
-pub shape_of-list : goal.shape_of-list
-shape_of-list c = c.loop-w.invariant.written.len
-
-pub returns : goal.returns
-returns c = words_all lays_two c.loop-w.invariant c.loop-w-test.false
+loop-w-preserved c = let q : (c.loop-w.w + 1) * 64 ≡ c.loop-w.w * 64 + 64 = omega arith in rw q (words_more lays_two c.loop-w.invariant (omega arith) c.list_word-i.ensures)

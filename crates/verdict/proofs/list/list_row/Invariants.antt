@@ -1,4 +1,4 @@
-use Prim.Native.Nat.{◌-◌}
+use Prim.Native.Nat.{◌*◌}
 use Rattle.rows.specs.Row.{has}
 use Rattle.rules.specs.Fact.{two}
 use Rattle.rules.specs.Lists.{only, entries2}
@@ -6,7 +6,4 @@ use Rattle.verdict.proofs.list.Words.{Words}
 use Rattle.verdict.proofs.list.list_row.Given as goal
 
 abbrev pub invariant-loop-w : goal.invariant-loop-w
-invariant-loop-w l = Words entries2 (λ x. only (has l.t l.k x) (two l.first x)) l.n l.initial.list l.at l.w l.list l.i
-
-abbrev pub decreases-loop-w : goal.decreases-loop-w
-decreases-loop-w l = l.n - l.w
+invariant-loop-w l = Words entries2 (λ x. only (has l.t l.k x) (two l.first x)) l.n l.initial.list l.at (l.w * 64) l.list l.i

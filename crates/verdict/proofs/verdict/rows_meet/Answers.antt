@@ -4,6 +4,3 @@ use Rattle.verdict.proofs.verdict.rows_meet.Goals as goal
 
 pub returns-then-may_clash : goal.returns-then-may_clash
 returns-then-may_clash c = rw (sym c.may_clash.ensures ∙ c.if-may_clash.true) (meets_any c.meets.ensures)
-
-pub returns : goal.returns
-returns c = rw (sym c.may_clash.ensures ∙ c.if-may_clash.false)

@@ -13,8 +13,8 @@ returns-then-types-budget c = search begin-ways
 pub returns-then-statements-ge4096 : goal.returns-then-statements-ge4096
 returns-then-statements-ge4096 c = search begin-ways
 
-pub returns-in-Refused : goal.returns-in-Refused
-returns-in-Refused c = search begin-ways
+pub returns-in-Err : goal.returns-in-Err
+returns-in-Err c = search begin-ways
 
-pub returns-in-Next : goal.returns-in-Next
-returns-in-Next c = search begin-ways
+pub returns-in-Ok : goal.returns-in-Ok
+returns-in-Ok c = search begin-ways

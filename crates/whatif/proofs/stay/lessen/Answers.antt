@@ -6,7 +6,7 @@ pub remove-requires : goal.remove-requires
 remove-requires c = c.requires c.if-moved.true
 
 pub returns-then-moved : goal.returns-then-moved
-returns-then-moved c = record { more_pairs_after = λ e. false_true (sym e ∙ c.if-moved.true); more_pairs_after_2 = λ e. c.remove.ensures.more_pairs_after; more_pairs_after_3 = λ e. c.remove.ensures.more_pairs_after_2 }
+returns-then-moved c = record { same = c.remove.ensures.same; more_pairs_after = λ e. false_true (sym e ∙ c.if-moved.true); more_pairs_after_2 = λ e. c.remove.ensures.more_pairs_after; more_pairs_after_3 = λ e. c.remove.ensures.more_pairs_after_2 }
 
 pub returns : goal.returns
-returns c = record { more_pairs_after = λ e. refl; more_pairs_after_2 = λ e. false_true (sym c.if-moved.false ∙ e); more_pairs_after_3 = λ e. false_true (sym c.if-moved.false ∙ e) }
+returns c = record { same = record { types = refl; edges = refl; pairs = refl }; more_pairs_after = λ e. refl; more_pairs_after_2 = λ e. false_true (sym c.if-moved.false ∙ e); more_pairs_after_3 = λ e. false_true (sym c.if-moved.false ∙ e) }

@@ -1,42 +1,32 @@
 use native.Mathlib.Omega.{arith}
-use mathlib.Core.Path.{◌≡◌, refl, sym, ap, ◌∙◌}
+use mathlib.Core.Path.{sym, ap, ◌∙◌}
 use lib.ListN.{length}
 use Rattle.writer.specs.Lay.{over}
+use Rattle.writer.specs.Record.{ats, sizes}
 use Rattle.writer.proofs.Over.{over_none, total_none, total_more, records_none, records_over, records_room}
+use Rattle.writer.proofs.Spans.{sizes_at, inside_span, span_bytes, span_size}
 use Rattle.writer.proofs.lay.lay_records.Goals as goal
 
-pub loop-k-init : goal.loop-k-init
-loop-k-init c = (omega arith, omega (arith, total_none c.args.size.now), sym (ap (over c.args.out.now c.args.start) (records_none c.args.book.now c.args.place.now c.args.size.now) ∙ over_none c.args.out.now c.args.start), refl)
+pub loop-span-init : goal.loop-span-init
+loop-span-init c = (omega (arith, total_none (sizes c.args.kept.now)), sym (ap (over c.args.out.now c.args.start) (records_none c.args.book.now (ats c.args.kept.now) (sizes c.args.kept.now)) ∙ over_none c.args.out.now c.args.start))
 
-pub offset_bounds-size-k : goal.offset_bounds-size-k
-offset_bounds-size-k c = omega arith
+pub overflow_add-span : goal.overflow_add-span
+overflow_add-span c = omega (arith, inside_span c.args.book.now c.args.kept.now c.loop-span.span-index (c.requires.stand.inside c.loop-span.span-index c.loop-span-test.true))
 
-pub bounds-size-k : goal.bounds-size-k
-bounds-size-k c = omega arith
+pub slice_bounds-put-end : goal.slice_bounds-put-end
+slice_bounds-put-end c = omega (arith, inside_span c.args.book.now c.args.kept.now c.loop-span.span-index (c.requires.stand.inside c.loop-span.span-index c.loop-span-test.true))
 
-pub offset_bounds-place-k : goal.offset_bounds-place-k
-offset_bounds-place-k c = omega arith
-
-pub bounds-place-k : goal.bounds-place-k
-bounds-place-k c = omega arith
-
-pub copy-requires : goal.copy-requires
-copy-requires c = (c.requires.stand.inside c.loop-k.k c.loop-k-test.true, omega (arith, records_room c.args.size.now c.args.start c.args.count c.loop-k.k (length c.args.out.now) c.loop-k-test.true c.requires.count_in_bounds))
+pub put-requires : goal.put-requires
+put-requires c =
+    let inside = inside_span c.args.book.now c.args.kept.now c.loop-span.span-index (c.requires.stand.inside c.loop-span.span-index c.loop-span-test.true) in
+    omega (arith, span_size c.args.book.now c.args.kept.now c.loop-span.span-index inside, records_room (sizes c.args.kept.now) c.args.start (length c.args.kept.now) c.loop-span.span-index (length c.args.out.now) c.loop-span-test.true c.requires.kept_in_bounds)
 
 pub overflow_add-here : goal.overflow_add-here
-overflow_add-here c = omega (arith, records_room c.args.size.now c.args.start c.args.count c.loop-k.k (length c.args.out.now) c.loop-k-test.true c.requires.count_in_bounds)
+overflow_add-here c = omega (arith, sizes_at c.args.kept.now c.loop-span.span-index, records_room (sizes c.args.kept.now) c.args.start (length c.args.kept.now) c.loop-span.span-index (length c.args.out.now) c.loop-span-test.true c.requires.kept_in_bounds)
 
-pub overflow_add-k : goal.overflow_add-k
-overflow_add-k c = omega arith
-
-pub loop-k-smaller : goal.loop-k-smaller
-loop-k-smaller c = omega arith
-
-pub loop-k-preserved : goal.loop-k-preserved
-loop-k-preserved c = (omega arith, omega (arith, total_more c.args.size.now c.loop-k.k), c.copy.ensures ∙ records_over c.args.book.now c.args.place.now c.args.size.now c.args.out.now c.loop-k.out c.args.start c.args.count c.loop-k.k c.loop-k.here c.requires.stand c.loop-k-test.true c.requires.count_in_bounds c.loop-k.invariant.1 c.loop-k.invariant.2, c.out-1.given ∙ c.loop-k.invariant.3)
-
-pub shape_of-out : goal.shape_of-out
-shape_of-out c = c.loop-k.invariant.3
-
-pub returns : goal.returns
-returns c = let e : c.loop-k.k ≡ c.args.count = omega arith in rw e at c.loop-k.invariant.2
+pub loop-span-preserved : goal.loop-span-preserved
+loop-span-preserved c = (
+  omega (arith, sizes_at c.args.kept.now c.loop-span.span-index, total_more (sizes c.args.kept.now) c.loop-span.span-index),
+  c.put.ensures ∙ (ap (over c.loop-span.out c.loop-span.here) (span_bytes c.args.book.now c.args.kept.now c.loop-span.span-index)
+      ∙ records_over c.args.book.now (ats c.args.kept.now) (sizes c.args.kept.now) c.args.out.now c.loop-span.out c.args.start (length c.args.kept.now) c.loop-span.span-index c.loop-span.here c.requires.stand c.loop-span-test.true c.requires.kept_in_bounds c.loop-span.invariant.0 c.loop-span.invariant.1),
+)

@@ -1,9 +1,10 @@
 use Prim.Native.Nat.{◌-◌}
+use Rattle.writer.specs.Record.{ats, sizes}
 use Rattle.writer.proofs.Ways.{Walk}
 use Rattle.writer.proofs.tree.search.Given as goal
 
-abbrev pub invariant-loop-count : goal.invariant-loop-count
-invariant-loop-count l = Walk l.book l.count l.child l.place l.size l.at l.n l.i l.d
+abbrev pub invariant-loop-new : goal.invariant-loop-new
+invariant-loop-new l = Walk l.book l.count l.child (ats l.spans) (sizes l.spans) l.new.at l.new.size l.i l.d
 
-abbrev pub decreases-loop-count : goal.decreases-loop-count
-decreases-loop-count l = l.count - l.i
+abbrev pub decreases-loop-new : goal.decreases-loop-new
+decreases-loop-new l = l.count - l.i

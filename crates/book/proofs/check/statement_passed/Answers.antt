@@ -1,8 +1,0 @@
--- `statement_passed` meets its contract.
-use Rattle.book.proofs.check.statement_passed.Goals as goal
-
-pub returns-in-Next : goal.returns-in-Next
-returns-in-Next c = simp c.in-Next.is
-
-pub returns-in-Refused : goal.returns-in-Refused
-returns-in-Refused c = simp c.in-Refused.is

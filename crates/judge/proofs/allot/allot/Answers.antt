@@ -1,0 +1,25 @@
+use native.Mathlib.Omega.{arith}
+use Rattle.rounds.proofs.Facts.{open_sized}
+use Rattle.tables.proofs.Open.{open_limits}
+use Rattle.saturation.proofs.allot.Words.{most_rows, small_holding, large_holding}
+use Rattle.judge.proofs.allot.allot.Goals as goal
+
+pub wanted-size-requires : goal.wanted-size-requires
+wanted-size-requires c =
+    open_sized c.requires.fact
+
+pub run_in-requires-clause-enough : goal.run_in-requires-clause-enough
+run_in-requires-clause-enough c =
+    small_holding (c.wanted-size.ensures.small c.if-size-eq0.true) (c.wanted-size.ensures.tiny c.if-size-eq0.true)
+
+pub run_in-requires-then-size-eq1-clause-enough : goal.run_in-requires-then-size-eq1-clause-enough
+run_in-requires-then-size-eq1-clause-enough c =
+    large_holding (open_limits c.requires.fact) (omega (arith, c.wanted-size.ensures.cache c.if-size-eq1.true)) (omega arith)
+
+pub run_in-requires-then-size-eq2-clause-enough : goal.run_in-requires-then-size-eq2-clause-enough
+run_in-requires-then-size-eq2-clause-enough c =
+    large_holding (open_limits c.requires.fact) (omega (arith, c.wanted-size.ensures.some c.if-size-eq2.true)) (omega arith)
+
+pub run_in-requires-2-clause-enough : goal.run_in-requires-2-clause-enough
+run_in-requires-2-clause-enough c =
+    large_holding (open_limits c.requires.fact) (omega (arith, most_rows _ (open_limits c.requires.fact))) (omega arith)

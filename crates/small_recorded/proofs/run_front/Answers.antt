@@ -1,8 +1,0 @@
--- `run_front` is safe.
-use mathlib.Core.Path.{sym}
-use native.Mathlib.Omega.{arith}
-use lib.Seq.{length-take-le}
-use Rattle.small_recorded.proofs.run_front.Goals as goal
-
-pub slice_bounds-run-end : goal.slice_bounds-run-end
-slice_bounds-run-end c = sym (length-take-le _ _ (omega arith))
