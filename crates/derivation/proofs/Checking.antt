@@ -19,7 +19,7 @@ use Rattle.book.specs.declared.statement.Statement.{Statement}
 use Rattle.book.proofs.reader.Laws.{turn_within}
 use Rattle.rules.specs.Rule.{some}
 use Rattle.tables.specs.Open.{book_of, Open}
-use Rattle.tables.proofs.Open.{open_within}
+use Rattle.tables.proofs.Open.{whole, open_within}
 use Rattle.book.specs.Header.{Limits}
 use Rattle.book.specs.Read.{pick}
 use Rattle.book.specs.declared.statement.Axiom.TheVariants.{SubClassOf, EquivalentClasses, DisjointClasses, InverseObjectProperties, SubObjectPropertyOf, TransitiveRole, SymmetricRole, FunctionalRole, InverseFunctionalRole, ObjectPropertyDomain, ObjectPropertyRange, SameIndividual, ClassAssertion, ObjectPropertyAssertion, DifferentIndividuals, NegativeObjectPropertyAssertion}
@@ -122,7 +122,7 @@ module _ (s O : List ℕ) (o : Open s (book_of s).counts O) (below : (x : ℕ) �
   r = row_at l k
 
   top : Limits B.counts
-  top = accepted_limits s B o.whole
+  top = accepted_limits s B (whole o)
 
   low : (x : ℕ) → Low (says_row B.counts l x)
   low x = go (eqb x none)
@@ -145,7 +145,7 @@ module _ (s O : List ℕ) (o : Open s (book_of s).counts O) (below : (x : ℕ) �
 
   statement_same : (f : ℕ) → statement_fits B r f p ≡ by_statement_lem B r (named B.counts l r) f
   unfolding statement_fits by_statement_lem premises_of named
-  statement_same f = some_within (Within B.counts) _ _ (λ x w. ap (λ (z : Bool). eqb (rule_number_lem x) r.rule && z) (sym (statement_tried a b c (low r.first) (low r.second) (low r.third) B top below f x w))) (member (statements B) r.statement) (member_every (Within B.counts) (statements B) r.statement (accepted_within s B o.whole))
+  statement_same f = some_within (Within B.counts) _ _ (λ x w. ap (λ (z : Bool). eqb (rule_number_lem x) r.rule && z) (sym (statement_tried a b c (low r.first) (low r.second) (low r.third) B top below f x w))) (member (statements B) r.statement) (member_every (Within B.counts) (statements B) r.statement (accepted_within s B (whole o)))
 
   sharing_same : (f : ℕ) → sharing_fits B.counts B r f p ≡ by_sharing_lem B r (named B.counts l r) f
   unfolding sharing_fits by_sharing_lem premises_of named
@@ -154,8 +154,8 @@ module _ (s O : List ℕ) (o : Open s (book_of s).counts O) (below : (x : ℕ) �
   clash_same : clash_fits_row B.counts B r p ≡ by_clash_lem B r (named B.counts l r)
   unfolding clash_fits_row by_clash_lem denial_fits denies premises_of named
   clash_same =
-      let i : length (statements B) ≡ B.counts.statements = accepted_axioms s B o.whole in
-      rw (i, clash_tried B top (disjoint_low o (book_of s).statements (open_within o)) (marks_low o) a b c (low r.first) (low r.second) (low r.third), denial_tried a b c (low r.first) (low r.second) (low r.third) B top (statements B) (accepted_within s B o.whole)) refl
+      let i : length (statements B) ≡ B.counts.statements = accepted_axioms s B (whole o) in
+      rw (i, clash_tried B top (disjoint_low o (book_of s).statements (open_within o)) (marks_low o) a b c (low r.first) (low r.second) (low r.third), denial_tried a b c (low r.first) (low r.second) (low r.third) B top (statements B) (accepted_within s B (whole o))) refl
 
   -- the answers of `accept`
   row_late : earlier k r ≡ false → false ≡ accepts B l k

@@ -22,7 +22,7 @@ use Rattle.rules.proofs.Conclusions.{atomics_in, values_in}
 use Rattle.tables.specs.Leaf.{kind_in, Leaves}
 use Rattle.tables.specs.Open.{book_of, Open}
 use Rattle.tables.specs.Tables.{Blank, Takers, Labelled, Labels, takers_by}
-use Rattle.tables.proofs.Open.{open_limits, open_statements}
+use Rattle.tables.proofs.Open.{whole, open_limits, open_statements}
 use Rattle.tables.proofs.Blank.{blank}
 use Rattle.tables.proofs.Sides.{class_low}
 use Rattle.derivation.specs.Accept.{statements, stands, Judged, stand_rows, faulty_book, judged}
@@ -45,21 +45,21 @@ module _ {s O : List ℕ} {h : Counts} (o : Open s h O) where
   B = book_of s
 
   individuals_few : B.counts.individuals ≤ 512
-  individuals_few = (accepted_limits s B o.whole).individuals_top
+  individuals_few = (accepted_limits s B (whole o)).individuals_top
 
   roles_few : B.counts.roles ≤ 64
-  roles_few = (accepted_limits s B o.whole).roles_top
+  roles_few = (accepted_limits s B (whole o)).roles_top
 
   classes_few : B.counts.classes ≤ 256
-  classes_few = (accepted_limits s B o.whole).classes_top
+  classes_few = (accepted_limits s B (whole o)).classes_top
 
   pub concepts_of : {L S D : List ℕ} → Leaves h (book_of s) h.concepts L → Slotted h.concepts L S → Deep (book_of s) h.concepts L S h.concepts D → ConceptsOf (book_of s) h L S D
   concepts_of known slotted deep = record {
     counts = o.counts;
     leaf = known;
     class_low = λ d. every_map _ _ (λ x l. omega (arith, l, (open_limits o).classes_top)) (atomic_of (concept B d)) (class_low o d);
-    classes_low = λ d. every_map _ _ (λ x l. omega (arith, l, classes_few)) (atomics (concept B d)) (atomics_in B (accepted_inside s B o.whole) d);
-    values_low = λ d. every_map _ _ (λ (v : Value) l. (omega (arith, l.0, roles_few), omega (arith, l.1, individuals_few))) (values (concept B d)) (values_in B (accepted_inside s B o.whole) d);
+    classes_low = λ d. every_map _ _ (λ x l. omega (arith, l, classes_few)) (atomics (concept B d)) (atomics_in B (accepted_inside s B (whole o)) d);
+    values_low = λ d. every_map _ _ (λ (v : Value) l. (omega (arith, l.0, roles_few), omega (arith, l.1, individuals_few))) (values (concept B d)) (values_in B (accepted_inside s B (whole o)) d);
     deep = λ d y l m. deep_has o (open_limits o).concepts_top known slotted deep d y l;
   }
 
@@ -158,7 +158,7 @@ module _ {s O : List ℕ} {h : Counts} (o : Open s h O) where
 
 pub judged_of : {s O : List ℕ} (l : List ℕ) {h : Counts} {n : ℕ} → Open s h O → n ≡ stands (book_of s) l → stand_rows n ≡ judged s l
 unfolding judged
-judged_of l o e = rw o.whole (ap stand_rows e)
+judged_of l o e = rw (whole o) (ap stand_rows e)
 
 pub judged_refused : {s offsets : List ℕ} (l : List ℕ) {r : Result (Counts × ℕ) Refusal} {e : Refusal} → BookChecked s r offsets → r ≡ Err e → faulty_book (number e) ≡ judged s l
 unfolding judged

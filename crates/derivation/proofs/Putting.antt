@@ -25,7 +25,8 @@ use Rattle.derivation.specs.declared.entry.Entry.TheVariants.{Nothing, Functiona
 use Rattle.derivation.specs.contracts.entry.Entry.{the_type}
 use Rattle.said.proofs.enter.Says.{alike}
 use Rattle.tables.proofs.same.Labelling.{labels_then}
-use Rattle.derivation.specs.Entering.{Rooms, WithSaid, Added}
+use Rattle.derivation.specs.Entering.{Rooms, WithSaid, Added, WithSaidIn, Tied, Kept}
+use Rattle.derivation.specs.declared.enter.Marks.{Marks}
 
 -- ---- one entry, by its kind
 
@@ -98,3 +99,14 @@ said_added {h} {L} {x} {f} {T} {J} {P} {F} {K} {T'} {J'} {P'} {F'} {K'} room wit
 
     says_any : f ≡ says_by any x
     says_any = says any (leaves_of_book h L room within)
+
+-- ---- the lists that are lent stay
+
+pub kept_none : {x : Marks} → Kept x x
+kept_none = record { takers = refl; takers_len = refl; disjoint = refl; disjoint_len = refl; pairs = refl; pairs_len = refl; functional = refl; functional_len = refl; labels = refl; labels_len = refl }
+
+pub kept_then : {x y z : Marks} → Kept x y → Kept y z → Kept x z
+kept_then v w = record { takers = w.takers ∙ v.takers; takers_len = w.takers_len ∙ v.takers_len; disjoint = w.disjoint ∙ v.disjoint; disjoint_len = w.disjoint_len ∙ v.disjoint_len; pairs = w.pairs ∙ v.pairs; pairs_len = w.pairs_len ∙ v.pairs_len; functional = w.functional ∙ v.functional; functional_len = w.functional_len ∙ v.functional_len; labels = w.labels ∙ v.labels; labels_len = w.labels_len ∙ v.labels_len }
+
+pub kept_by : {h : Counts} {f : Said} {x y : Marks} → WithSaidIn h f x y → Tied x y → Kept x y
+kept_by w t = record { takers = t.takers; takers_len = w.takers.len; disjoint = t.disjoint; disjoint_len = w.disjoint.len; pairs = t.pairs; pairs_len = w.pairs.len; functional = t.functional; functional_len = w.functional.len; labels = t.labels; labels_len = w.labels.len }

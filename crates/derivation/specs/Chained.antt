@@ -8,6 +8,7 @@ use Rattle.book.specs.declared.statement.SubRolePath.TheVariants.{One, Two, Thre
 use Rattle.book.specs.declared.statement.Axiom.{Axiom}
 use Rattle.book.specs.declared.statement.Axiom.TheVariants.{SubClassOf, EquivalentClasses, DisjointClasses, InverseObjectProperties, SubObjectPropertyOf, TransitiveRole, SymmetricRole, FunctionalRole, InverseFunctionalRole, ObjectPropertyDomain, ObjectPropertyRange, SameIndividual, ClassAssertion, ObjectPropertyAssertion, DifferentIndividuals, NegativeObjectPropertyAssertion}
 use Rattle.derivation.specs.declared.chain.Chain.{Chain}
+use Rattle.derivation.specs.declared.rule.Triple as rule
 use Rattle.derivation.specs.declared.chain.Chain.TheVariants.{Alone, Pair, Triple, Fillers}
 use Rattle.derivation.specs.Fits.{two_fits_lem, three_fits_lem, join_fits_lem, fits}
 
@@ -33,6 +34,10 @@ chain_of_lem (ClassAssertion c i) = Alone
 chain_of_lem (ObjectPropertyAssertion r a b) = Alone
 chain_of_lem (DifferentIndividuals a b) = Alone
 chain_of_lem (NegativeObjectPropertyAssertion r a b) = Alone
+
+-- the roles of a path of three are among 64
+abbrev pub TripleLow : rule.Triple → Type 0
+TripleLow x = (role_id x.first < 64) × (role_id x.second < 64) × (role_id x.third < 64) × (role_id x.above < 64)
 
 -- its roles are among 64
 abbrev pub ChainLow : Chain → Type 0

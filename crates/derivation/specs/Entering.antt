@@ -16,6 +16,7 @@ use Rattle.said.specs.Said.{Said}
 use Rattle.said.specs.declared.layout.Relation.TheVariants as relation
 use Rattle.derivation.specs.Accept.{statements}
 use Rattle.derivation.specs.Tables.{Starts}
+use Rattle.derivation.specs.declared.enter.Marks.{Marks}
 
 -- the tables have room: what takes a concept T, disjoint pairs J and clashing ones P, functional fields F
 pub record Rooms (h : Counts) (T J P F : List ℕ) : Type 0 where
@@ -75,3 +76,41 @@ pub record Doing (s : List ℕ) (h : Counts) (S T J P F K : List ℕ) (k at : �
 -- all of them
 pub record Entered (s : List ℕ) (h : Counts) (S T J P F K : List ℕ) : Type 0 where
   pub holding : Holding s h (statements (book_of s)) S T J P F K
+
+-- ---- the same, of the tables as one value (src/enter.rt)
+
+abbrev pub RoomsIn : Counts → Marks → Type 0
+RoomsIn h x = Rooms h x.takers.now x.disjoint.now x.pairs.now x.functional.now
+
+abbrev pub WithSaidIn : Counts → Said → Marks → Marks → Type 0
+WithSaidIn h f x y = WithSaid h f x.takers.now x.disjoint.now x.pairs.now x.functional.now x.labels.now y.takers.now y.disjoint.now y.pairs.now y.functional.now y.labels.now
+
+abbrev pub AddedIn : Counts → List ℕ → Axiom → Marks → Marks → Type 0
+AddedIn h L z x y = Added h L z x.takers.now x.disjoint.now x.pairs.now x.functional.now x.labels.now y.takers.now y.disjoint.now y.pairs.now y.functional.now y.labels.now
+
+abbrev pub BeginIn : List ℕ → Counts → ℕ → List ℕ → Marks → Type 0
+BeginIn s h from S x = Begin s h from S x.takers.now x.disjoint.now x.pairs.now x.functional.now x.labels.now
+
+abbrev pub EnteredIn : List ℕ → Counts → List ℕ → Marks → Type 0
+EnteredIn s h S x = Entered s h S x.takers.now x.disjoint.now x.pairs.now x.functional.now x.labels.now
+
+-- y has the lists of x
+pub record Tied (x y : Marks) : Type 0 where
+  pub takers : y.takers.ghost_name ≡ x.takers.ghost_name
+  pub disjoint : y.disjoint.ghost_name ≡ x.disjoint.ghost_name
+  pub pairs : y.pairs.ghost_name ≡ x.pairs.ghost_name
+  pub functional : y.functional.ghost_name ≡ x.functional.ghost_name
+  pub labels : y.labels.ghost_name ≡ x.labels.ghost_name
+
+-- each of the length that it had
+pub record Kept (x y : Marks) : Type 0 where
+  pub takers : y.takers.ghost_name ≡ x.takers.ghost_name
+  pub disjoint : y.disjoint.ghost_name ≡ x.disjoint.ghost_name
+  pub pairs : y.pairs.ghost_name ≡ x.pairs.ghost_name
+  pub functional : y.functional.ghost_name ≡ x.functional.ghost_name
+  pub labels : y.labels.ghost_name ≡ x.labels.ghost_name
+  pub takers_len : length y.takers.now ≡ length x.takers.now
+  pub disjoint_len : length y.disjoint.now ≡ length x.disjoint.now
+  pub pairs_len : length y.pairs.now ≡ length x.pairs.now
+  pub functional_len : length y.functional.now ≡ length x.functional.now
+  pub labels_len : length y.labels.now ≡ length x.labels.now

@@ -17,6 +17,9 @@ use Rattle.derivation.specs.Accept.{statements, rule_number_lem, member, Judged,
 use Rattle.derivation.specs.Fits.{fits, share_fits_lem, deny_fits, clash_fits_lem, one_of_three, any_order, any_two}
 use Rattle.derivation.specs.Denied.{Denied}
 use Rattle.derivation.specs.Tables.{Concepts, ConceptsOf, LabelsOf, PairsOf, Starts}
+use Rattle.derivation.specs.declared.denied.Denials.{Denials}
+use Rattle.derivation.specs.declared.check.Tables.{Tables}
+use Rattle.derivation.specs.declared.check.Said.{Said}
 
 -- the tables of concepts and of statements, ready for a row
 pub record Prepared (s : List ℕ) (h : Counts) (T L S D : List ℕ) : Type 0 where
@@ -47,6 +50,19 @@ pub record Stated (s : List ℕ) (h : Counts) (O L T K P : List ℕ) : Type 0 wh
   pub labels : LabelsOf (book_of s) h K
   pub pairs_room : 2048 ≤ length P
   pub pairs : PairsOf (book_of s) h P
+
+-- the same, of one value (src/check.rt, src/denied.rt)
+abbrev pub DeniedIn : Book → Denials → Type 0
+DeniedIn B x = Denied B (statements B) x.denied.now x.known
+
+abbrev pub PreparedIn : List ℕ → Counts → Tables → Type 0
+PreparedIn s h x = Prepared s h x.starts.now x.concepts.leaves.now x.concepts.slots.now x.concepts.deep.now
+
+abbrev pub ReadyIn : List ℕ → Counts → Tables → Type 0
+ReadyIn s h x = Ready s h x.starts.now x.concepts.leaves.now x.concepts.slots.now x.concepts.deep.now x.labels.now x.pairs.now x.denials.denied.now x.denials.known
+
+abbrev pub StatedIn : List ℕ → Counts → List ℕ → Said → Type 0
+StatedIn s h O x = Stated s h O x.leaves.now x.starts.now x.labels.now x.pairs.now
 
 -- before the pairs of classes that bring markers are found: what takes a concept T, disjoint pairs J and P, functional fields F
 pub record Marked (s : List ℕ) (h : Counts) (T J P F : List ℕ) : Type 0 where

@@ -18,6 +18,7 @@ use Rattle.rules.specs.ToldSame.{same}
 use Rattle.tables.specs.Leaf.{kind_in, LeafWithin, Leaves}
 use Rattle.derivation.specs.Fits.{joins, pair_clash}
 use Rattle.derivation.specs.Accept.{member}
+use Rattle.derivation.specs.declared.deep.ConceptTables.{ConceptTables}
 
 -- A leaf that tells a fact has a slot: a has-value its role field times 512 plus the individual, an Atomic 65,536 plus its class; all else shares the slot
 -- 65,792.
@@ -68,6 +69,16 @@ pub record ConceptsOf (B : Book) (h : Counts) (L S D : List ℕ) : Type 0 where
   pub classes_low : (d : ℕ) → Every (λ x. x < 256) (atomics (concept B d))
   pub values_low : (d : ℕ) → Every (λ (v : Value). (role_id v.role < 64) × (v.to < 512)) (values (concept B d))
   pub deep : (d y : ℕ) → d < h.concepts → y < no_slot → leaf_has_lem h.concepts L S D d y ≡ some (leaves (concept B d)) (λ e. eqb (slot_tree e) y)
+
+-- all three of one value (src/deep.rt)
+abbrev pub leaf_in : ℕ → ConceptTables → ℕ → ℕ → Bool
+leaf_in n x d y = leaf_has_lem n x.leaves.now x.slots.now x.deep.now d y
+
+abbrev pub ConceptsIn : Counts → ConceptTables → Type 0
+ConceptsIn h x = Concepts h x.leaves.now x.slots.now x.deep.now
+
+abbrev pub ConceptsSay : Book → Counts → ConceptTables → Type 0
+ConceptsSay B h x = ConceptsOf B h x.leaves.now x.slots.now x.deep.now
 
 -- of two of n individuals, whether their labels are equal
 unfoldable pub told_same_lem : ℕ → List ℕ → ℕ → ℕ → Bool

@@ -5,11 +5,11 @@ ghost use Rattle.book.specs.Role.{role_id};
 ghost use Rattle.book.specs.Header.{Limits};
 ghost use Rattle.book.specs.Within.{Within, PathWithin};
 ghost use Rattle.derivation.specs.Fits.{leads_from_lem, leads_to_lem, is_edge_lem, two_fits_lem, three_fits_lem, join_fits_lem, one_of_three, any_order, any_two};
-ghost use Rattle.derivation.specs.Chained.{path_chain_lem, chain_of_lem, ChainLow};
+ghost use Rattle.derivation.specs.Chained.{path_chain_lem, chain_of_lem, ChainLow, TripleLow};
 
 use super::fact::{is_edge, leads_from, leads_to};
 use super::row::Premises;
-use super::rule::{join_fits, three_fits, two_fits};
+use super::rule::{Triple, join_fits, three_fits, two_fits};
 use super::statement::flip;
 use book::header::Counts;
 use book::role::Role;
@@ -117,64 +117,53 @@ fn goes_on(n: u32, r: Role, s: Role, g: u32, h: u32) -> bool
     is_edge(n, s, h) & (b == c)
 }
 
-fn triple_by(
-    n: u32,
-    r: Role,
-    s: Role,
-    u: Role,
-    t: Role,
-    f: u32,
-    p: Premises,
-    g: u32,
-    h: u32,
-) -> bool
-    requires { (role_id r < 64) × (role_id s < 64) × (role_id u < 64) × (role_id t < 64) }
-    ensures { result ≡ one_of_three p.one p.two p.three (three_fits_lem n r s u t f g h) }
+fn triple_by(n: u32, path: Triple, f: u32, p: Premises, g: u32, h: u32) -> bool
+    requires { TripleLow path }
+    ensures { result ≡ one_of_three p.one p.two p.three (three_fits_lem n path.first path.second path.third path.above f g h) }
 {
-    if goes_on(n, r, s, g, h) {
-        return three_fits(n, r, s, u, t, f, g, h, p.one)
-            | (three_fits(n, r, s, u, t, f, g, h, p.two)
-                | three_fits(n, r, s, u, t, f, g, h, p.three));
+    if goes_on(n, path.first, path.second, g, h) {
+        return three_fits(n, path, f, g, h, p.one)
+            | (three_fits(n, path, f, g, h, p.two) | three_fits(n, path, f, g, h, p.three));
     }
     false
 }
 
-fn triple_on(n: u32, r: Role, s: Role, u: Role, t: Role, f: u32, p: Premises, g: u32) -> bool
-    requires { (role_id r < 64) × (role_id s < 64) × (role_id u < 64) × (role_id t < 64) }
-    ensures { result ≡ one_of_three p.one p.two p.three (λ h. one_of_three p.one p.two p.three (three_fits_lem n r s u t f g h)) }
+fn triple_on(n: u32, path: Triple, f: u32, p: Premises, g: u32) -> bool
+    requires { TripleLow path }
+    ensures { result ≡ one_of_three p.one p.two p.three (λ h. one_of_three p.one p.two p.three (three_fits_lem n path.first path.second path.third path.above f g h)) }
 {
-    if triple_by(n, r, s, u, t, f, p, g, p.one) {
+    if triple_by(n, path, f, p, g, p.one) {
         return true;
     }
-    if triple_by(n, r, s, u, t, f, p, g, p.two) {
+    if triple_by(n, path, f, p, g, p.two) {
         return true;
     }
-    triple_by(n, r, s, u, t, f, p, g, p.three)
+    triple_by(n, path, f, p, g, p.three)
 }
 
-fn triple_from(n: u32, r: Role, s: Role, u: Role, t: Role, f: u32, p: Premises, g: u32) -> bool
-    requires { (role_id r < 64) × (role_id s < 64) × (role_id u < 64) × (role_id t < 64) }
-    ensures { result ≡ one_of_three p.one p.two p.three (λ h. one_of_three p.one p.two p.three (three_fits_lem n r s u t f g h)) }
+fn triple_from(n: u32, path: Triple, f: u32, p: Premises, g: u32) -> bool
+    requires { TripleLow path }
+    ensures { result ≡ one_of_three p.one p.two p.three (λ h. one_of_three p.one p.two p.three (three_fits_lem n path.first path.second path.third path.above f g h)) }
 {
-    if begins(n, r, t, f, g) {
-        return triple_on(n, r, s, u, t, f, p, g);
+    if begins(n, path.first, path.above, f, g) {
+        return triple_on(n, path, f, p, g);
     }
     false
 }
 
 // Whether f follows by a path of three from the facts p.
-pub fn triple_fits(n: u32, r: Role, s: Role, u: Role, t: Role, f: u32, p: Premises) -> bool
-    requires { (role_id r < 64) × (role_id s < 64) × (role_id u < 64) × (role_id t < 64) }
-    ensures { result ≡ any_order p.one p.two p.three (three_fits_lem n r s u t f) }
+pub fn triple_fits(n: u32, path: Triple, f: u32, p: Premises) -> bool
+    requires { TripleLow path }
+    ensures { result ≡ any_order p.one p.two p.three (three_fits_lem n path.first path.second path.third path.above f) }
 {
-    if three_fits(n, r, s, u, t, f, p.one, p.two, p.three) {
+    if three_fits(n, path, f, p.one, p.two, p.three) {
         return true;
     }
-    if triple_from(n, r, s, u, t, f, p, p.three) {
+    if triple_from(n, path, f, p, p.three) {
         return true;
     }
-    if triple_from(n, r, s, u, t, f, p, p.two) {
+    if triple_from(n, path, f, p, p.two) {
         return true;
     }
-    triple_from(n, r, s, u, t, f, p, p.one)
+    triple_from(n, path, f, p, p.one)
 }

@@ -6,13 +6,22 @@ ghost use Rattle.rows.specs.Row.{Put};
 ghost use Rattle.tables.specs.Leaf.{Leaves};
 ghost use Rattle.tables.specs.Open.{book_of, Open};
 ghost use Rattle.tables.specs.Parts.{parts_in};
-ghost use Rattle.derivation.specs.Tables.{no_slot, slot_of, leaf_has_lem, Concepts};
+ghost use Rattle.derivation.specs.Tables.{no_slot, slot_of, ConceptsIn, leaf_in};
 ghost use Rattle.derivation.specs.Collected.{Slotted, Wide, Parted, Deep};
 
 use book::header::Counts;
 use rows::row::{insert, member, unite};
 use tables::concept::{part_number, parts_of};
 use tables::leaf::{is_and, is_atomic, is_value};
+use tables::opened::OpenBook;
+
+// The leaf of each concept, and its leaves at any depth.
+#[derive(Clone, Copy)]
+pub struct ConceptTables<'a> {
+    pub leaves: &'a [u32],
+    pub slots: &'a [u32],
+    pub deep: &'a [u64],
+}
 
 const NO_SLOT: usize = 65792;
 
@@ -42,22 +51,16 @@ pub fn slot_of(x: u32) -> usize
 }
 
 // Whether concept d has, at any depth of And, a leaf of slot y.
-pub fn leaf_has(
-    counts: Counts,
-    leaves: &[u32],
-    slots: &[u32],
-    deep: &[u64],
-    d: usize,
-    y: usize,
-) -> bool
-    requires concepts { Concepts counts leaves.now slots.now deep.now }
+pub fn leaf_has(counts: Counts, concepts: ConceptTables, d: usize, y: usize) -> bool
+    requires concepts { ConceptsIn counts concepts }
     requires d_lt_concepts { (d < counts.concepts) × (y < 65793) }
-    ensures { result ≡ leaf_has_lem counts.concepts leaves.now slots.now deep.now d y }
+    ensures { result ≡ leaf_in counts.concepts concepts.entry d y }
 {
+    let slots = concepts.slots;
     let k = slots[y] as usize;
     if k < counts.concepts as usize {
-        let same = slot_of(leaves[k]) == y;
-        return same & member(deep, d * 8 + k / 512, k % 512);
+        let same = slot_of(concepts.leaves[k]) == y;
+        return same & member(concepts.deep, d * 8 + k / 512, k % 512);
     }
     false
 }
@@ -83,14 +86,13 @@ fn unite_wide(deep: &mut [u64], d: usize, p: usize)
 }
 
 // The leaves of an And are those of its parts.
-fn unite_parts(book: &[u8], offsets: &[usize], counts: Counts, deep: &mut [u64], d: usize)
-    requires fact { Open book.now counts offsets.now }
-    requires d_lt_concepts { (d < counts.concepts) × (counts.concepts * 64 ≤ length deep.old) }
-    ensures { Parted book.now (parts_in book.now counts d) d (parts_in book.now counts d).len deep.old deep.new }
+fn unite_parts(book: OpenBook<'_>, deep: &mut [u64], d: usize)
+    requires d_lt_concepts { (d < book.counts.concepts) × (book.counts.concepts * 64 ≤ length deep.old) }
+    ensures { Parted book.entry.bytes.now (parts_in book.entry.bytes.now book.entry.counts d) d (parts_in book.entry.bytes.now book.entry.counts d).len deep.old deep.new }
 {
-    let parts = parts_of(book, offsets[d], d as u32, counts);
+    let parts = parts_of(book.bytes, book.offsets[d], d as u32, book.counts);
     for i in 0..parts.len {
-        unite_wide(deep, d, part_number(book, parts, i));
+        unite_wide(deep, d, part_number(book.bytes, parts, i));
     }
 }
 
@@ -104,45 +106,28 @@ fn put_own(leaves: &[u32], n: usize, slots: &[u32], deep: &mut [u64], d: usize)
 }
 
 // The leaves of concept d, from those of the concepts before it.
-fn deep_row(
-    book: &[u8],
-    offsets: &[usize],
-    counts: Counts,
-    leaves: &[u32],
-    slots: &[u32],
-    deep: &mut [u64],
-    d: usize,
-)
-    requires fact { Open book.now counts offsets.now }
-    requires leaves { Leaves counts (book_of book.now) counts.concepts leaves.now }
-    requires slotted { Slotted counts.concepts leaves.now slots.now × (length slots.now ≡ 65793) × (d < counts.concepts) × (counts.concepts * 64 ≤ length deep.old) }
-    requires deep { Deep (book_of book.now) counts.concepts leaves.now slots.now d deep.old }
-    ensures { Deep (book_of book.now) counts.concepts leaves.now slots.now (d + 1) deep.new × (length deep.new ≡ length deep.old) }
+fn deep_row(book: OpenBook<'_>, leaves: &[u32], slots: &[u32], deep: &mut [u64], d: usize)
+    requires leaves { Leaves book.counts (book_of book.bytes.now) book.counts.concepts leaves.now }
+    requires slotted { Slotted book.counts.concepts leaves.now slots.now × (length slots.now ≡ 65793) × (d < book.counts.concepts) × (book.counts.concepts * 64 ≤ length deep.old) }
+    requires deep { Deep (book_of book.bytes.now) book.counts.concepts leaves.now slots.now d deep.old }
+    ensures { Deep (book_of book.entry.bytes.now) book.entry.counts.concepts leaves.now slots.now (d + 1) deep.new × (length deep.new ≡ length deep.old) }
 {
     if is_and(leaves[d]) {
-        unite_parts(book, offsets, counts, deep, d);
+        unite_parts(book, deep, d);
     } else {
-        put_own(leaves, counts.concepts as usize, slots, deep, d);
+        put_own(leaves, book.counts.concepts as usize, slots, deep, d);
     }
 }
 
 // The leaves of all concepts: a part has a lower number than its whole.
-pub fn fill_deep(
-    book: &[u8],
-    offsets: &[usize],
-    counts: Counts,
-    leaves: &[u32],
-    slots: &[u32],
-    deep: &mut [u64],
-)
-    requires fact { Open book.now counts offsets.now }
-    requires leaves { Leaves counts (book_of book.now) counts.concepts leaves.now }
-    requires slotted { Slotted counts.concepts leaves.now slots.now × (length slots.now ≡ 65793) × (counts.concepts * 64 ≤ length deep.old) }
-    requires deep { Deep (book_of book.now) counts.concepts leaves.now slots.now 0 deep.old }
-    ensures { Deep (book_of book.now) counts.concepts leaves.now slots.now counts.concepts deep.new × (length deep.new ≡ length deep.old) }
+pub fn fill_deep(book: OpenBook<'_>, leaves: &[u32], slots: &[u32], deep: &mut [u64])
+    requires leaves { Leaves book.counts (book_of book.bytes.now) book.counts.concepts leaves.now }
+    requires slotted { Slotted book.counts.concepts leaves.now slots.now × (length slots.now ≡ 65793) × (book.counts.concepts * 64 ≤ length deep.old) }
+    requires deep { Deep (book_of book.bytes.now) book.counts.concepts leaves.now slots.now 0 deep.old }
+    ensures { Deep (book_of book.entry.bytes.now) book.entry.counts.concepts leaves.now slots.now book.entry.counts.concepts deep.new × (length deep.new ≡ length deep.old) }
 {
-    let n = counts.concepts as usize;
+    let n = book.counts.concepts as usize;
     for d in 0..n {
-        deep_row(book, offsets, counts, leaves, slots, deep, d);
+        deep_row(book, leaves, slots, deep, d);
     }
 }

@@ -11,7 +11,7 @@ ghost use Rattle.tables.specs.Open.{book_of};
 ghost use Rattle.tables.specs.Tables.{Blank};
 ghost use Rattle.derivation.specs.Accept.{statements};
 ghost use Rattle.derivation.specs.Denied.{is_denial_lem, denies_known, WithDenied, PutAt, Denied};
-ghost use Rattle.derivation.specs.Judging.{denial_fits};
+ghost use Rattle.derivation.specs.Judging.{DeniedIn, denial_fits};
 ghost use Rattle.derivation.specs.Tables.{LabelsOf, Starts};
 
 use super::fact::{edge_of, pair_of};
@@ -21,6 +21,13 @@ use book::header::Counts;
 use book::reader::next_statement;
 use book::statement::Axiom;
 use rows::row::insert;
+
+// A bit for each fact that is denied, and whether something is that is known without a fact.
+#[derive(Clone, Copy)]
+pub struct Denials<'a> {
+    pub denied: &'a [u64],
+    pub known: bool,
+}
 
 // Whether a statement denies anything.
 fn is_denial(statement: Axiom) -> bool
@@ -150,8 +157,10 @@ fn is_denied(denied: &[u64], g: u32) -> bool
 }
 
 // Whether one of the facts p is, or what is known.
-pub fn by_denial(denied: &[u64], known: bool, p: Premises) -> bool
-    ensures { (B : Book) → Denied B (statements B) denied.now known → result ≡ denial_fits B p }
+pub fn by_denial(denials: Denials, p: Premises) -> bool
+    ensures { (B : Book) → DeniedIn B denials.entry → result ≡ denial_fits B p }
 {
-    known | (is_denied(denied, p.one) | (is_denied(denied, p.two) | is_denied(denied, p.three)))
+    let denied = denials.denied;
+    denials.known
+        | (is_denied(denied, p.one) | (is_denied(denied, p.two) | is_denied(denied, p.three)))
 }

@@ -4,11 +4,13 @@ ghost use Rattle.book.specs.Book.{Book};
 ghost use Rattle.book.specs.Header.{Limits};
 ghost use Rattle.book.specs.Within.{Within};
 ghost use Rattle.derivation.specs.Fits.{fits as fits_by, joins as joinsBy, share_types_lem, share_edges_lem, share_fits_lem as sharesBy, clash_fits_lem as clashesBy, one_of_three, any_order, any_two};
-ghost use Rattle.derivation.specs.Tables.{Concepts, ConceptsOf, told_same_lem, one_class_by, LabelsOf, PairsOf};
+ghost use Rattle.derivation.specs.Tables.{ConceptsIn, ConceptsSay, told_same_lem, one_class_by, LabelsOf, PairsOf};
 
 use super::chain::{Chain, chain_of, fillers_fit, pair_fits, triple_fits};
+use super::deep::ConceptTables;
 use super::fact::{bearer, class_in, is_edge, leads_from, leads_to, pair_of, role_in, type_of};
 use super::row::Premises;
+use super::rule::Triple;
 use super::statement::fits;
 use book::header::Counts;
 use book::role::Role;
@@ -19,51 +21,49 @@ use rows::row::member;
 fn alone_fits(
     statement: Axiom,
     counts: Counts,
-    leaves: &[u32],
-    slots: &[u32],
-    deep: &[u64],
+    concepts: ConceptTables,
     f: u32,
     p: Premises,
 ) -> bool
-    requires concepts { Concepts counts leaves.now slots.now deep.now }
+    requires concepts { ConceptsIn counts concepts }
     requires within { Within counts statement }
-    ensures { (B : Book) → ConceptsOf B counts leaves.now slots.now deep.now → result ≡ one_of_three p.one p.two p.three (λ g. fits_by B statement f g g g) }
+    ensures { (B : Book) → ConceptsSay B counts concepts.entry → result ≡ one_of_three p.one p.two p.three (λ g. fits_by B statement f g g g) }
 {
-    if fits(
-        statement, counts, leaves, slots, deep, f, p.one, p.one, p.one,
-    ) {
+    if fits(statement, counts, concepts, f, p.one, p.one, p.one) {
         return true;
     }
-    if fits(
-        statement, counts, leaves, slots, deep, f, p.two, p.two, p.two,
-    ) {
+    if fits(statement, counts, concepts, f, p.two, p.two, p.two) {
         return true;
     }
-    fits(
-        statement, counts, leaves, slots, deep, f, p.three, p.three, p.three,
-    )
+    fits(statement, counts, concepts, f, p.three, p.three, p.three)
 }
 
 // Whether f follows by the statement from the facts p.
 pub fn order_fits(
     statement: Axiom,
     counts: Counts,
-    leaves: &[u32],
-    slots: &[u32],
-    deep: &[u64],
+    concepts: ConceptTables,
     f: u32,
     p: Premises,
 ) -> bool
-    requires concepts { Concepts counts leaves.now slots.now deep.now }
+    requires concepts { ConceptsIn counts concepts }
     requires within { Within counts statement }
-    ensures { (B : Book) → ConceptsOf B counts leaves.now slots.now deep.now → result ≡ any_order p.one p.two p.three (fits_by B statement f) }
+    ensures { (B : Book) → ConceptsSay B counts concepts.entry → result ≡ any_order p.one p.two p.three (fits_by B statement f) }
 {
     let n = counts.individuals as u32;
     let chain = chain_of(counts, statement);
     match chain {
-        Chain::Alone => alone_fits(statement, counts, leaves, slots, deep, f, p),
+        Chain::Alone => alone_fits(statement, counts, concepts, f, p),
         Chain::Pair(r, s, t) => pair_fits(n, r, s, t, f, p),
-        Chain::Triple(r, s, u, t) => triple_fits(n, r, s, u, t, f, p),
+        Chain::Triple(first, second, third, above) => {
+            let path = Triple {
+                first,
+                second,
+                third,
+                above,
+            };
+            triple_fits(n, path, f, p)
+        }
         Chain::Fillers(r) => fillers_fit(n, r, f, p),
     }
 }

@@ -1,6 +1,7 @@
 // One use of a rule: whether the fact f follows from the premises g, h and k, taken in order.
 ghost use Rattle.std.specs.Prelude.{◌≡◌, ◌<◌};
 ghost use Rattle.book.specs.Role.{role_id};
+ghost use Rattle.derivation.specs.Chained.{TripleLow};
 ghost use Rattle.derivation.specs.Fits.{swap_fits_lem, one_fits_lem, two_fits_lem, three_fits_lem, join_fits_lem};
 
 use super::fact::{edge_of, is_edge, leads_from, leads_to, pair_of};
@@ -38,30 +39,30 @@ pub fn two_fits(n: u32, r: Role, s: Role, t: Role, f: u32, g: u32, h: u32) -> bo
     is_edge(n, r, g) & (is_edge(n, s, h) & ((b == c) & (f == edge_of(t, a, d))))
 }
 
+// A path of three roles, and the role above it.
+#[derive(Clone, Copy)]
+pub struct Triple {
+    pub first: Role,
+    pub second: Role,
+    pub third: Role,
+    pub above: Role,
+}
+
 // A path of three.
-pub fn three_fits(
-    n: u32,
-    r: Role,
-    s: Role,
-    u: Role,
-    t: Role,
-    f: u32,
-    g: u32,
-    h: u32,
-    k: u32,
-) -> bool
-    requires { (role_id r < 64) × (role_id s < 64) × (role_id u < 64) × (role_id t < 64) }
-    ensures { result ≡ three_fits_lem n r s u t f g h k }
+pub fn three_fits(n: u32, path: Triple, f: u32, g: u32, h: u32, k: u32) -> bool
+    requires { TripleLow path }
+    ensures { result ≡ three_fits_lem n path.first path.second path.third path.above f g h k }
 {
-    let a = leads_from(r, g);
-    let b = leads_to(r, g);
-    let c = leads_from(s, h);
-    let d = leads_to(s, h);
-    let i = leads_from(u, k);
-    let j = leads_to(u, k);
-    is_edge(n, r, g)
-        & (is_edge(n, s, h)
-            & (is_edge(n, u, k) & ((b == c) & ((d == i) & (f == edge_of(t, a, j))))))
+    let a = leads_from(path.first, g);
+    let b = leads_to(path.first, g);
+    let c = leads_from(path.second, h);
+    let d = leads_to(path.second, h);
+    let i = leads_from(path.third, k);
+    let j = leads_to(path.third, k);
+    is_edge(n, path.first, g)
+        & (is_edge(n, path.second, h)
+            & (is_edge(n, path.third, k)
+                & ((b == c) & ((d == i) & (f == edge_of(path.above, a, j))))))
 }
 
 // Rule 7: two edges of one subject, and the joining of their fillers, the lower number first.

@@ -19,6 +19,7 @@ use Rattle.rules.specs.Spoken.{Reader, spoken, spoken_of, decode_for}
 use Rattle.rules.proofs.Ended.{refused_book}
 use Rattle.rules.proofs.Members.{conclusions_same}
 use Rattle.rules.proofs.Spoken.{spoken_inside}
+use Rattle.tables.proofs.Open.{whole}
 use Rattle.tables.specs.Open.{book_of, Open}
 use Rattle.heed.specs.Names.{reader_of, Ready}
 use Rattle.heed.specs.declared.names.Names.{Names}
@@ -53,7 +54,7 @@ module _ {budget : ℕ} {ts es : List ℕ} (a : Admitted budget ts es) (ps : Lis
       ys = heard (reader_of n) s
 
       decoded : decode_for r s ≡ accepted (spoken r (book_of s))
-      decoded = ready_decoded n ready s ∙ ap (spoken_of r) o.whole
+      decoded = ready_decoded n ready s ∙ ap (spoken_of r) (whole o)
 
       -- 17: no such individual, no such concept
       pub no_such_individual : h.individuals ≤ i → gave (Ended (refusal NoSuchQuestion)) ts es ps ≡ member_for (reader_of n) s budget ts es ps i c
@@ -65,7 +66,7 @@ module _ {budget : ℕ} {ts es : List ℕ} (a : Admitted budget ts es) (ps : Lis
       -- what the run of the statements that count shows is shown of the book spoken of: it differs in the count of its statements alone
       shown_spoken : shown_in (spoken r (book_of s)) i c ≡ shown_in (heard_book r s) i c
       unfolding shown_in in_one_class
-      shown_spoken = ap (λ (X : Set). shown (book_of s).counts.individuals X (λ j b. X (pair j b)) (concept (book_of s) c) i) (conclusions_same (heard_book r s) (length (heard r s)) (heard r s) (λ P k. k) (λ P k. k) (heard_inside r o) (spoken_inside r s (book_of s) o.whole))
+      shown_spoken = ap (λ (X : Set). shown (book_of s).counts.individuals X (λ j b. X (pair j b)) (concept (book_of s) c) i) (conclusions_same (heard_book r s) (length (heard r s)) (heard r s) (λ P k. k) (λ P k. k) (heard_inside r o) (spoken_inside r s (book_of s) (whole o)))
 
       pub own_gave : i < h.individuals → c < h.concepts → answered (shown_in (heard_book (reader_of n) s) i c) (outcome_on (heard_book (reader_of n) s) budget ts es ps) ≡ member_for (reader_of n) s budget ts es ps i c
       own_gave k l =

@@ -15,26 +15,25 @@ use saturation::allot::wanted;
 use saturation::enter::Task;
 use saturation::lists::Lists;
 use saturation::run::{draw, read_off};
+use tables::opened::OpenBook;
 
 // A run in tables of so many words for links, words for what is said, bytes for chains, labels and leaves; and then the answer.
 // Never inlined, so that each size has a frame of its own and a small book does not walk over the largest.
 #[inline(never)]
 fn run_in<const T: usize, const S: usize, const C: usize, const L: usize, const K: usize>(
-    book: &[u8],
-    offsets: &[usize],
+    book: OpenBook<'_>,
     task: Task,
     names: Names,
     lists: &mut Lists,
     question: Question,
 ) -> Answer
-    requires fact { Open book.now task.counts offsets.now }
-    requires from_value { rest book.now task.counts task.from ≡ (book_of book.now).statements }
+    requires from_value { rest book.bytes.now book.counts task.from ≡ (book_of book.bytes.now).statements }
     requires ready { Ready names }
     requires admitted { Admitted task.budget lists.old.types.now lists.old.edges.now }
-    requires concept_lt_concepts { (question.concept < task.counts.concepts) × (question.individual < task.counts.individuals) }
-    requires enough { Holding task.counts T S C L K }
+    requires concept_lt_concepts { (question.concept < book.counts.concepts) × (question.individual < book.counts.individuals) }
+    requires enough { Holding book.counts T S C L K }
     ensures same { Same lists.old lists.new }
-    ensures answer { over (gave result) lists.new ≡ answered (shown_in (heard_book (reader_of names.entry) book.now) question.individual question.concept) (over (outcome_on (heard_book (reader_of names.entry) book.now) task.budget) lists.old) }
+    ensures answer { over (gave result) lists.new ≡ answered (shown_in (heard_book (reader_of names.entry) book.entry.bytes.now) question.individual question.concept) (over (outcome_on (heard_book (reader_of names.entry) book.entry.bytes.now) task.budget) lists.old) }
 {
     let mut t = [0u64; T];
     let mut says = [0u64; S];
@@ -43,7 +42,6 @@ fn run_in<const T: usize, const S: usize, const C: usize, const L: usize, const 
     let mut leaves = [0u32; K];
     let drawn = draw(
         book,
-        offsets,
         task,
         names,
         &mut leaves,
@@ -52,40 +50,34 @@ fn run_in<const T: usize, const S: usize, const C: usize, const L: usize, const 
         &mut labels,
         &mut t,
     );
-    let end = read_off(&t, task, &says, &leaves, &labels, drawn, lists);
-    give_answer(book, offsets, task.counts, &t, &says, question, end)
+    let end = read_off(&t, book.counts, task, &says, &leaves, &labels, drawn, lists);
+    give_answer(book, &t, &says, question, end)
 }
 
 // As many words as the book asks for.
 pub(crate) fn allot(
-    book: &[u8],
-    offsets: &[usize],
+    book: OpenBook<'_>,
     task: Task,
     names: Names,
     lists: &mut Lists,
     question: Question,
 ) -> Answer
-    requires fact { Open book.now task.counts offsets.now }
-    requires from_value { rest book.now task.counts task.from ≡ (book_of book.now).statements }
+    requires from_value { rest book.bytes.now book.counts task.from ≡ (book_of book.bytes.now).statements }
     requires ready { Ready names }
     requires admitted { Admitted task.budget lists.old.types.now lists.old.edges.now }
-    requires concept_lt_concepts { (question.concept < task.counts.concepts) × (question.individual < task.counts.individuals) }
+    requires concept_lt_concepts { (question.concept < book.counts.concepts) × (question.individual < book.counts.individuals) }
     ensures same { Same lists.old lists.new }
-    ensures answer { over (gave result) lists.new ≡ answered (shown_in (heard_book (reader_of names.entry) book.now) question.individual question.concept) (over (outcome_on (heard_book (reader_of names.entry) book.now) task.budget) lists.old) }
+    ensures answer { over (gave result) lists.new ≡ answered (shown_in (heard_book (reader_of names.entry) book.entry.bytes.now) question.individual question.concept) (over (outcome_on (heard_book (reader_of names.entry) book.entry.bytes.now) task.budget) lists.old) }
 {
-    let size = wanted(task.counts);
+    let size = wanted(book.counts);
     if size == 0 {
-        return run_in::<512, 1416, 256, 16, 64>(book, offsets, task, names, lists, question);
+        return run_in::<512, 1416, 256, 16, 64>(book, task, names, lists, question);
     }
     if size == 1 {
-        return run_in::<16384, 75784, 16384, 512, 4096>(
-            book, offsets, task, names, lists, question,
-        );
+        return run_in::<16384, 75784, 16384, 512, 4096>(book, task, names, lists, question);
     }
     if size == 2 {
-        return run_in::<131072, 75784, 16384, 512, 4096>(
-            book, offsets, task, names, lists, question,
-        );
+        return run_in::<131072, 75784, 16384, 512, 4096>(book, task, names, lists, question);
     }
-    run_in::<531480, 75784, 16384, 512, 4096>(book, offsets, task, names, lists, question)
+    run_in::<531480, 75784, 16384, 512, 4096>(book, task, names, lists, question)
 }

@@ -14,6 +14,7 @@ ghost use Rattle.judge.specs.Answered.{answer_of};
 use book::header::Counts;
 use judging::concept::shown;
 use said::layout::{Relation, layout_of, part_of};
+use tables::opened::OpenBook;
 use verdict::end::End;
 
 // Shown or not, with the counts of the finished run; or the end of a run that does not finish.
@@ -33,41 +34,32 @@ pub struct Question {
 
 // With so many words for the rows of concepts.
 fn shown_in<const R: usize>(
-    book: &[u8],
-    offsets: &[usize],
-    counts: Counts,
+    book: OpenBook<'_>,
     t: &[u64],
     groups: &[u64],
     question: Question,
 ) -> bool
-    requires ready { Ready book.now counts offsets.now t.now groups.now }
-    requires concept_lt_concepts { (question.concept < counts.concepts) × (question.individual < counts.individuals) }
-    requires rows { (counts.concepts * 8 ≤ R) × (R ≤ 32768) }
-    ensures { result ≡ shown_by counts t.now groups.now (tree (book_of book.now) question.concept) question.individual }
+    requires ready { Ready book.bytes.now book.counts book.offsets.now t.now groups.now }
+    requires concept_lt_concepts { (question.concept < book.counts.concepts) × (question.individual < book.counts.individuals) }
+    requires rows { (book.counts.concepts * 8 ≤ R) × (R ≤ 32768) }
+    ensures { result ≡ shown_by book.entry.counts t.now groups.now (tree (book_of book.entry.bytes.now) question.concept) question.individual }
 {
     let mut rows = [0u64; R];
     let mut done = [0u64; 64];
     let k = question.concept as usize;
     let i = question.individual as usize;
-    shown(book, offsets, counts, t, groups, &mut rows, &mut done, k, i)
+    shown(book, t, groups, &mut rows, &mut done, k, i)
 }
 
-fn is_shown(
-    book: &[u8],
-    offsets: &[usize],
-    counts: Counts,
-    t: &[u64],
-    groups: &[u64],
-    question: Question,
-) -> bool
-    requires ready { Ready book.now counts offsets.now t.now groups.now }
-    requires concept_lt_concepts { (question.concept < counts.concepts) × (question.individual < counts.individuals) }
-    ensures { result ≡ shown_by counts t.now groups.now (tree (book_of book.now) question.concept) question.individual }
+fn is_shown(book: OpenBook<'_>, t: &[u64], groups: &[u64], question: Question) -> bool
+    requires ready { Ready book.bytes.now book.counts book.offsets.now t.now groups.now }
+    requires concept_lt_concepts { (question.concept < book.counts.concepts) × (question.individual < book.counts.individuals) }
+    ensures { result ≡ shown_by book.entry.counts t.now groups.now (tree (book_of book.entry.bytes.now) question.concept) question.individual }
 {
-    if counts.concepts <= 64 {
-        return shown_in::<512>(book, offsets, counts, t, groups, question);
+    if book.counts.concepts <= 64 {
+        return shown_in::<512>(book, t, groups, question);
     }
-    shown_in::<32768>(book, offsets, counts, t, groups, question)
+    shown_in::<32768>(book, t, groups, question)
 }
 
 fn finished(shown: bool, types: u32, edges: u32, pairs: u32) -> Answer
@@ -81,24 +73,21 @@ fn finished(shown: bool, types: u32, edges: u32, pairs: u32) -> Answer
 
 // The answer of a run that left the links t and the rows `says`, and ended so.
 pub(crate) fn give_answer(
-    book: &[u8],
-    offsets: &[usize],
-    counts: Counts,
+    book: OpenBook<'_>,
     t: &[u64],
     says: &[u64],
     question: Question,
     end: End,
 ) -> Answer
-    requires fact { Open book.now counts offsets.now }
-    requires table { Table (size_of counts) t.now }
-    requires counts_in_bounds { total_rows (layout_of counts) * 8 ≤ length says.now }
-    requires concept_lt_concepts { (question.concept < counts.concepts) × (question.individual < counts.individuals) }
-    ensures { answer_of result ≡ judged (shown_by counts t.now (part (layout_of counts) Groups says.now) (tree (book_of book.now) question.concept) question.individual) (end_of end) }
+    requires table { Table (size_of book.counts) t.now }
+    requires counts_in_bounds { total_rows (layout_of book.counts) * 8 ≤ length says.now }
+    requires concept_lt_concepts { (question.concept < book.counts.concepts) × (question.individual < book.counts.individuals) }
+    ensures { answer_of result ≡ judged (shown_by book.entry.counts t.now (part (layout_of book.entry.counts) Groups says.now) (tree (book_of book.entry.bytes.now) question.concept) question.individual) (end_of end) }
 {
     let End::Finished(types, edges, pairs) = end else {
         return Answer::Ended(end);
     };
-    let groups = part_of(says, layout_of(counts), Relation::Groups);
-    let shown = is_shown(book, offsets, counts, t, groups, question);
+    let groups = part_of(says, layout_of(book.counts), Relation::Groups);
+    let shown = is_shown(book, t, groups, question);
     finished(shown, types, edges, pairs)
 }

@@ -18,32 +18,31 @@ use book::refusal::Refusal;
 use heed::names::{Names, fault};
 use saturation::enter::Task;
 use saturation::lists::Lists;
+use tables::opened::OpenBook;
 use verdict::end::End;
 
 // The book is accepted and open: its own refusal of the question stands before the run.
 fn run_accepted(
-    book: &[u8],
-    offsets: &[usize],
+    book: OpenBook<'_>,
     task: Task,
     names: Names,
     lists: &mut Lists,
     question: Question,
 ) -> Result<Answer, Refusal>
-    requires fact { Open book.now task.counts offsets.now }
-    requires from_value { rest book.now task.counts task.from ≡ (book_of book.now).statements }
+    requires from_value { rest book.bytes.now book.counts task.from ≡ (book_of book.bytes.now).statements }
     requires ready { Ready names }
     requires admitted { Admitted task.budget lists.old.types.now lists.old.edges.now }
     ensures same { Same lists.old lists.new }
-    ensures answer { over (gave (answered result)) lists.new ≡ over (λ ts es ps. member_for (reader_of names.entry) book.now task.budget ts es ps question.individual question.concept) lists.old }
+    ensures answer { over (gave (answered result)) lists.new ≡ over (λ ts es ps. member_for (reader_of names.entry) book.entry.bytes.now task.budget ts es ps question.individual question.concept) lists.old }
 {
-    let counts = task.counts;
+    let counts = book.counts;
     if question.individual >= counts.individuals as u32 {
         return Err(Refusal::NoSuchQuestion);
     }
     if question.concept >= counts.concepts as u32 {
         return Err(Refusal::NoSuchQuestion);
     }
-    Ok(allot(book, offsets, task, names, lists, question))
+    Ok(allot(book, task, names, lists, question))
 }
 
 // Refused before the run, or as the run answers. No book has more concepts than there are offsets.
@@ -61,12 +60,16 @@ fn run(
     fault(names)?;
     let mut offsets = [0usize; 4096];
     let (counts, from) = check_book(book, &mut offsets)?;
-    let task = Task {
+    let open = OpenBook {
+        bytes: book,
+        offsets: &offsets,
         counts,
+    };
+    let task = Task {
         from,
         budget: admitted,
     };
-    run_accepted(book, &offsets, task, names, lists, question)
+    run_accepted(open, task, names, lists, question)
 }
 
 // Whether the concept is shown for the individual, in the run for what is named: a reader with his table, a day, both or neither. The clauses are those of `judge`, of the book that has only the statements that count.

@@ -14,14 +14,14 @@ use super::way::{Left, count_of, part_of, way_of};
 use book::concept::{ConceptExpr, concept_at};
 use book::header::Counts;
 use rows::row::{insert, member};
+use tables::opened::OpenBook;
 
 // The record of concept k.
-fn record_at(book: &[u8], offsets: &[usize], counts: Counts, k: usize) -> ConceptExpr
-    requires fact { Open book.now counts offsets.now }
-    requires k_lt_concepts { k < counts.concepts }
-    ensures { RecordOf book.now counts k result }
+fn record_at(book: OpenBook<'_>, k: usize) -> ConceptExpr
+    requires k_lt_concepts { k < book.counts.concepts }
+    ensures { RecordOf book.entry.bytes.now book.entry.counts k result }
 {
-    let Ok((expr, _)) = concept_at(book, offsets[k], k as u32, counts) else {
+    let Ok((expr, _)) = concept_at(book.bytes, book.offsets[k], k as u32, book.counts) else {
         return ConceptExpr::Bot;
     };
     expr
@@ -72,35 +72,33 @@ fn give_done(
 // Works out row k, and the rows that it needs.
 #[cycle(concept_parts)]
 pub fn concept(
-    book: &[u8],
-    offsets: &[usize],
-    counts: Counts,
+    book: OpenBook<'_>,
     t: &[u64],
     groups: &[u64],
     rows: &mut [u64],
     done: &mut [u64],
     k: usize,
 )
-    requires ready { Ready book.now counts offsets.now t.now groups.now }
-    requires memo { Memo book.now counts t.now groups.now rows.old done.old }
-    requires k_lt_concepts { k < counts.concepts }
-    ensures { Judged book.now counts t.now groups.now k rows.old done.old rows.new done.new }
+    requires ready { Ready book.bytes.now book.counts book.offsets.now t.now groups.now }
+    requires memo { Memo book.bytes.now book.counts t.now groups.now rows.old done.old }
+    requires k_lt_concepts { k < book.counts.concepts }
+    ensures { Judged book.entry.bytes.now book.entry.counts t.now groups.now k rows.old done.old rows.new done.new }
 {
     if is_done(done, k) {
         return;
     }
-    let expr = record_at(book, offsets, counts, k);
+    let expr = record_at(book, k);
     let way = way_of(expr);
     let count = count_of(way);
     let mut acc = [0u64; 8];
-    begin(counts, t, groups, expr, &mut acc);
+    begin(book.counts, t, groups, expr, &mut acc);
     let left = Left {
         whole: k,
         way,
         count,
         next: 0,
     };
-    parts(book, offsets, counts, t, groups, rows, done, left, &mut acc);
+    parts(book, t, groups, rows, done, left, &mut acc);
     copy(rows, k, &acc);
     set_done(done, k);
 }
@@ -108,9 +106,7 @@ pub fn concept(
 // Mixes the rows of the parts that are left into the row acc.
 #[cycle(concept_parts)]
 fn parts(
-    book: &[u8],
-    offsets: &[usize],
-    counts: Counts,
+    book: OpenBook<'_>,
     t: &[u64],
     groups: &[u64],
     rows: &mut [u64],
@@ -118,35 +114,33 @@ fn parts(
     left: Left,
     acc: &mut [u64],
 )
-    requires ready { Ready book.now counts offsets.now t.now groups.now }
-    requires memo { Memo book.now counts t.now groups.now rows.old done.old }
-    requires way_in { WayIn book.now counts left.whole left.way }
-    requires whole_lt_concepts { (left.whole < counts.concepts) × (left.count ≡ count_of_lem left.way) × (left.next ≤ left.count) × (8 ≤ length acc.old) }
-    ensures { Mixed book.now counts t.now groups.now left rows.old done.old acc.old rows.new done.new acc.new }
+    requires ready { Ready book.bytes.now book.counts book.offsets.now t.now groups.now }
+    requires memo { Memo book.bytes.now book.counts t.now groups.now rows.old done.old }
+    requires way_in { WayIn book.bytes.now book.counts left.whole left.way }
+    requires whole_lt_concepts { (left.whole < book.counts.concepts) × (left.count ≡ count_of_lem left.way) × (left.next ≤ left.count) × (8 ≤ length acc.old) }
+    ensures { Mixed book.entry.bytes.now book.entry.counts t.now groups.now left rows.old done.old acc.old rows.new done.new acc.new }
 {
     let way = left.way;
-    let next = give_done(book, counts, t, rows, done, left, acc);
+    let next = give_done(book.bytes, book.counts, t, rows, done, left, acc);
     if next == left.count {
         return;
     }
-    let p = part_of(book, way, next);
-    concept(book, offsets, counts, t, groups, rows, done, p);
-    give(counts, t, way, rows, p, acc);
+    let p = part_of(book.bytes, way, next);
+    concept(book, t, groups, rows, done, p);
+    give(book.counts, t, way, rows, p, acc);
     let rest = Left {
         whole: left.whole,
         way,
         count: left.count,
         next: next + 1,
     };
-    parts(book, offsets, counts, t, groups, rows, done, rest, acc);
+    parts(book, t, groups, rows, done, rest, acc);
 }
 
 // Whether concept k is shown for individual i. The concepts below k are worked out first, in their order, so that the recursion is never deeper than
 // one part list.
 pub fn shown(
-    book: &[u8],
-    offsets: &[usize],
-    counts: Counts,
+    book: OpenBook<'_>,
     t: &[u64],
     groups: &[u64],
     rows: &mut [u64],
@@ -154,15 +148,15 @@ pub fn shown(
     k: usize,
     i: usize,
 ) -> bool
-    requires ready { Ready book.now counts offsets.now t.now groups.now }
-    requires memo { Memo book.now counts t.now groups.now rows.old done.old }
-    requires k_lt_concepts { (k < counts.concepts) × (i < counts.individuals) }
-    ensures value { result ≡ shown_by counts t.now groups.now (tree (book_of book.now) k) i }
-    ensures further { Further book.now counts t.now groups.now rows.old done.old rows.new done.new }
+    requires ready { Ready book.bytes.now book.counts book.offsets.now t.now groups.now }
+    requires memo { Memo book.bytes.now book.counts t.now groups.now rows.old done.old }
+    requires k_lt_concepts { (k < book.counts.concepts) × (i < book.counts.individuals) }
+    ensures value { result ≡ shown_by book.entry.counts t.now groups.now (tree (book_of book.entry.bytes.now) k) i }
+    ensures further { Further book.entry.bytes.now book.entry.counts t.now groups.now rows.old done.old rows.new done.new }
 {
     for j in 0..k {
-        concept(book, offsets, counts, t, groups, rows, done, j);
+        concept(book, t, groups, rows, done, j);
     }
-    concept(book, offsets, counts, t, groups, rows, done, k);
+    concept(book, t, groups, rows, done, k);
     member(rows, k, i)
 }

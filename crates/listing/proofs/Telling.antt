@@ -16,6 +16,7 @@ use Rattle.rules.specs.ToldSame.{same}
 use Rattle.rules.proofs.Tests.{false_true, not-true, or_right}
 use Rattle.rules.proofs.Least.{count_none}
 use Rattle.rules.proofs.Facts.{pair_of}
+use Rattle.tables.proofs.Open.{whole}
 use Rattle.tables.specs.Open.{book_of, size_of, Open}
 use Rattle.tables.specs.Tables.{Blank}
 use Rattle.rounds.proofs.Facts.{open_sized}
@@ -107,7 +108,7 @@ module _ {s O : List ℕ} {h : Counts} {K t u : List ℕ} (o : Open s h O) (none
 
   pub listed_none : {l : List ℕ} → 9 * due_count (book_of s) (conclusions (book_of s)) ≤ length l → Listed s h u 0 l
   listed_none {l} room = record {
-    whole = o.whole;
+    whole = (whole o);
     counts = o.counts;
     table = table_alike u first_table w.len alike;
     tally = sym (count_none (due_of (book_of s) (known_in h u)) top none_due);

@@ -19,6 +19,13 @@ pub record Fresh (h : Counts) (t T D : List ℕ) : Type 0 where
   pub deep_blank : Blank D
   pub deep : h.concepts * 64 ≤ length D
 
+-- so many words for links, for what takes a concept and for leaves at any depth are enough
+pub record Holding (h : Counts) (t p d : ℕ) : Type 0 where
+  pub links : class_row_lem h h.individuals * 8 ≤ t
+  pub takers : h.concepts * 8 ≤ p
+  pub deep : h.concepts * 64 ≤ d
+  pub most : (t ≤ 536616) × (p ≤ 32768) × (d ≤ 262144)
+
 -- what is known in the table t is what is concluded, and the rows l have one for each fact that is due one, n in all; and after a clash one more
 pub record Filled (s : List ℕ) (h : Counts) (clashing : Bool) (n : ℕ) (t l : List ℕ) : Type 0 where
   pub table : Table (size_of h) t

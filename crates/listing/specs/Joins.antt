@@ -1,13 +1,7 @@
 -- How many joinings are due (src/join.rt): the told labels T and the labels K of a run show them.
 use Rattle.std.specs.Prelude.{ℕ, Bool, not, ◌&&◌, List, get_or, ltb, eqb}
-use Rattle.book.specs.declared.header.Counts.{Counts}
 use Rattle.rules.specs.Fact.{Two, two}
 use Rattle.rules.specs.Lists.{gather, only}
-use Rattle.saturation.specs.declared.enter.Task.{Task}
-
--- a run of the whole book with this budget
-abbrev pub whole_task_lem : Counts → ℕ → ℕ → Task
-whole_task_lem h from budget = record { counts = h; from = from; budget = budget }
 
 -- i and j, lower number first, have one label of K, and different ones of T
 unfoldable pub joined_by : List ℕ → List ℕ → ℕ → ℕ → Bool

@@ -18,6 +18,7 @@ use steps::fact::{Link, number_of};
 use steps::ledger::Ledger;
 use steps::place::place_of;
 use steps::put::put_row;
+use tables::opened::OpenBook;
 use tables::size::{size_of, type_field};
 use turns::round::Tables;
 
@@ -74,21 +75,13 @@ fn find_clash(ledger: &Ledger, size: Size, pairs: &[u64]) -> Option<Found>
 }
 
 // The row of two types that clash, behind those of the ledger.
-fn types_row(
-    book: &[u8],
-    offsets: &[usize],
-    counts: Counts,
-    ledger: &Ledger,
-    pairs: &[u64],
-    found: Found,
-) -> Row
-    requires listed { ListedIn book.now counts ledger.now }
-    requires fact { Open book.now counts offsets.now }
-    requires pairs_of { PairsOf (book_of book.now) counts pairs.now }
-    requires two { Two (size_of counts) ledger.now.t.now pairs.now found }
-    ensures { ClashRow (book_of book.now) ledger.now.rows.now ledger.now.len result }
+fn types_row(book: OpenBook<'_>, ledger: &Ledger, pairs: &[u64], found: Found) -> Row
+    requires listed { ListedIn book.bytes.now book.counts ledger.now }
+    requires pairs_of { PairsOf (book_of book.bytes.now) book.counts pairs.now }
+    requires two { Two (size_of book.counts) ledger.now.t.now pairs.now found }
+    ensures { ClashRow (book_of book.entry.bytes.now) ledger.now.rows.now ledger.now.len result }
 {
-    let size = size_of(counts);
+    let size = size_of(book.counts);
     let one = Link {
         field: type_field(size),
         from: found.at,
@@ -99,8 +92,8 @@ fn types_row(
         from: found.at,
         to: found.other,
     };
-    let first = place_of(counts, ledger, number_of(size, one));
-    let second = place_of(counts, ledger, number_of(size, other));
+    let first = place_of(book.counts, ledger, number_of(size, one));
+    let second = place_of(book.counts, ledger, number_of(size, other));
     Row {
         rule: 8,
         statement: NONE,
@@ -115,45 +108,29 @@ fn types_row(
 }
 
 // The row of a clash.
-fn clash_row(
-    book: &[u8],
-    offsets: &[usize],
-    counts: Counts,
-    tables: Tables,
-    pairs: &[u64],
-    ledger: &Ledger,
-) -> Row
-    requires listed { ListedIn book.now counts ledger.now }
-    requires fact { Open book.now counts offsets.now }
-    requires ready { Ready book.now counts tables }
-    requires pairs_of { PairsOf (book_of book.now) counts pairs.now × (2048 ≤ length pairs.now) }
-    requires t_value { clashes (book_of book.now) (known_in counts ledger.now.t.now) ≡ true }
-    ensures { ClashRow (book_of book.now) ledger.now.rows.now ledger.now.len result }
+fn clash_row(book: OpenBook<'_>, tables: Tables, pairs: &[u64], ledger: &Ledger) -> Row
+    requires listed { ListedIn book.bytes.now book.counts ledger.now }
+    requires ready { Ready book.bytes.now book.counts tables }
+    requires pairs_of { PairsOf (book_of book.bytes.now) book.counts pairs.now × (2048 ≤ length pairs.now) }
+    requires t_value { clashes (book_of book.bytes.now) (known_in book.counts ledger.now.t.now) ≡ true }
+    ensures { ClashRow (book_of book.entry.bytes.now) ledger.now.rows.now ledger.now.len result }
 {
-    match find_clash(ledger, size_of(counts), pairs) {
-        Some(found) => types_row(book, offsets, counts, ledger, pairs, found),
-        None => denial_row(book, counts, tables, ledger),
+    match find_clash(ledger, size_of(book.counts), pairs) {
+        Some(found) => types_row(book, ledger, pairs, found),
+        None => denial_row(book.bytes, book.counts, tables, ledger),
     }
 }
 
 // Puts the row of a clash behind those of the ledger.
-pub fn put_clash(
-    book: &[u8],
-    offsets: &[usize],
-    counts: Counts,
-    tables: Tables,
-    pairs: &[u64],
-    ledger: &mut Ledger,
-)
-    requires listed { ListedIn book.now counts ledger.old }
-    requires fact { Open book.now counts offsets.now }
-    requires ready { Ready book.now counts tables }
-    requires pairs_of { PairsOf (book_of book.now) counts pairs.now × (2048 ≤ length pairs.now) × (9 * ledger.old.len + 9 ≤ length ledger.old.rows.now) }
-    requires t_value { clashes (book_of book.now) (known_in counts ledger.old.t.now) ≡ true }
-    ensures clash_put { ClashPut (book_of book.now) ledger.old.rows.now ledger.old.len ledger.new.rows.now }
+pub fn put_clash(book: OpenBook<'_>, tables: Tables, pairs: &[u64], ledger: &mut Ledger)
+    requires listed { ListedIn book.bytes.now book.counts ledger.old }
+    requires ready { Ready book.bytes.now book.counts tables }
+    requires pairs_of { PairsOf (book_of book.bytes.now) book.counts pairs.now × (2048 ≤ length pairs.now) × (9 * ledger.old.len + 9 ≤ length ledger.old.rows.now) }
+    requires t_value { clashes (book_of book.bytes.now) (known_in book.counts ledger.old.t.now) ≡ true }
+    ensures clash_put { ClashPut (book_of book.entry.bytes.now) ledger.old.rows.now ledger.old.len ledger.new.rows.now }
     ensures t_unchanged { ledger.new.t.now ≡ ledger.old.t.now }
     ensures kept { Kept ledger.old ledger.new }
 {
-    let row = clash_row(book, offsets, counts, tables, pairs, ledger);
+    let row = clash_row(book, tables, pairs, ledger);
     put_row(ledger.rows, ledger.len, row);
 }

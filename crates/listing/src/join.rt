@@ -7,10 +7,10 @@ ghost use Rattle.rules.specs.Meaning.{conclusions};
 ghost use Rattle.rules.specs.Lists.{used as usedOf};
 ghost use Rattle.tables.specs.Open.{book_of, Open};
 ghost use Rattle.tables.specs.Tables.{Blank};
-ghost use Rattle.saturation.specs.Run.{Small, rows_of};
+ghost use Rattle.saturation.specs.Run.{Holding};
 ghost use Rattle.derivation.specs.Tables.{LabelsOf};
 ghost use Rattle.steps.specs.Joinings.{joinings};
-ghost use Rattle.listing.specs.Joins.{joined_by, joined_with, joined_among, whole_task_lem};
+ghost use Rattle.listing.specs.Joins.{joined_by, joined_with, joined_among};
 
 use super::fill::state;
 use book::check::check_book;
@@ -20,6 +20,7 @@ use saturation::allot::wanted;
 use saturation::enter::Task;
 use saturation::run::draw;
 use tables::leaf::read_leaves;
+use tables::opened::OpenBook;
 
 // Whether i and j are a joining.
 fn is_joining(told: &[u32], labels: &[u32], i: usize, j: usize) -> bool
@@ -69,72 +70,51 @@ fn count_all(told: &[u32], labels: &[u32], n: usize) -> u32
     c
 }
 
-// A run of the whole book, for everyone.
-fn whole_task(counts: Counts, from: usize, used: u32) -> Task
-    ensures { result ≡ whole_task_lem counts from used }
-{
-    Task {
-        counts,
-        from,
-        budget: used,
-    }
-}
-
 // The told labels.
-fn read_told(
-    book: &[u8],
-    from: usize,
-    offsets: &[usize],
-    counts: Counts,
-    takers: &mut [u64],
-    told: &mut [u32],
-)
-    requires fact { Open book.now counts offsets.now }
-    requires from_value { rest book.now counts from ≡ (book_of book.now).statements }
-    requires blank { Blank takers.old × (counts.concepts * 8 ≤ length takers.old) × (512 ≤ length told.old) }
-    ensures { LabelsOf (book_of book.now) counts told.new × (counts.individuals ≤ length told.new) }
+fn read_told(book: OpenBook<'_>, from: usize, takers: &mut [u64], told: &mut [u32])
+    requires from_value { rest book.bytes.now book.counts from ≡ (book_of book.bytes.now).statements }
+    requires blank { Blank takers.old × (book.counts.concepts * 8 ≤ length takers.old) × (512 ≤ length told.old) }
+    ensures { LabelsOf (book_of book.entry.bytes.now) book.entry.counts told.new × (book.entry.counts.individuals ≤ length told.new) }
 {
     let mut leaves = [0u32; 4096];
     let mut starts = [0usize; 4096];
     let mut pairs = [0u64; 2048];
-    read_leaves(book, offsets, counts, &mut leaves);
-    state(
-        book,
-        from,
-        offsets,
-        counts,
-        &leaves,
-        &mut starts,
-        told,
-        &mut pairs,
-        takers,
-    );
+    read_leaves(book, &mut leaves);
+    state(book, from, &leaves, &mut starts, told, &mut pairs, takers);
 }
 
-// By the told labels and a run, in tables for a small book.
-fn count_few(book: &[u8], from: usize, offsets: &[usize], counts: Counts, used: u32) -> u32
-    requires fact { Open book.now counts offsets.now }
-    requires from_value { rest book.now counts from ≡ (book_of book.now).statements }
-    requires used_value { used ≡ usedOf (book_of book.now) (conclusions (book_of book.now)) }
-    requires small { Small counts × (rows_of counts ≤ 64) }
-    ensures { result ≡ length (joinings (book_of book.now) (conclusions (book_of book.now))) }
+// By the told labels and a run, in tables of so many words for what takes a concept and for links, words for what is said, bytes for chains, labels and
+// leaves. Never inlined, so that each size has a frame of its own and a small book does not walk over the largest.
+#[inline(never)]
+fn count_in<
+    const P: usize,
+    const T: usize,
+    const S: usize,
+    const C: usize,
+    const L: usize,
+    const K: usize,
+>(book: OpenBook<'_>, from: usize, used: u32) -> u32
+    requires from_value { rest book.bytes.now book.counts from ≡ (book_of book.bytes.now).statements }
+    requires used_value { used ≡ usedOf (book_of book.bytes.now) (conclusions (book_of book.bytes.now)) }
+    requires takers { (book.counts.concepts * 8 ≤ P) × (P ≤ 32768) }
+    requires enough { Holding book.counts T S C L K }
+    ensures { result ≡ length (joinings (book_of book.entry.bytes.now) (conclusions (book_of book.entry.bytes.now))) }
 {
-    let mut takers = [0u64; 512];
+    let mut takers = [0u64; P];
     let mut told = [0u32; 512];
-    read_told(book, from, offsets, counts, &mut takers, &mut told);
+    read_told(book, from, &mut takers, &mut told);
     let everyone = Names {
         reader: None,
         day: None,
     };
-    let mut t = [0u64; 512];
-    let mut says = [0u64; 1416];
-    let mut chains = [0u8; 256];
-    let mut labels = [0u32; 16];
-    let mut leaves = [0u32; 64];
+    let mut t = [0u64; T];
+    let mut says = [0u64; S];
+    let mut chains = [0u8; C];
+    let mut labels = [0u32; L];
+    let mut leaves = [0u32; K];
     draw(
         book,
-        offsets,
-        whole_task(counts, from, used),
+        Task { from, budget: used },
         everyone,
         &mut leaves,
         &mut says,
@@ -142,64 +122,19 @@ fn count_few(book: &[u8], from: usize, offsets: &[usize], counts: Counts, used: 
         &mut labels,
         &mut t,
     );
-    count_all(&told, &labels, counts.individuals as usize)
+    count_all(&told, &labels, book.counts.individuals as usize)
 }
 
-// In tables for any book.
-fn count_many(book: &[u8], from: usize, offsets: &[usize], counts: Counts, used: u32) -> u32
-    requires fact { Open book.now counts offsets.now }
-    requires from_value { rest book.now counts from ≡ (book_of book.now).statements }
-    requires used_value { used ≡ usedOf (book_of book.now) (conclusions (book_of book.now)) }
-    ensures { result ≡ length (joinings (book_of book.now) (conclusions (book_of book.now))) }
+// Of a checked book, in as many words as it asks for.
+fn count_checked(book: OpenBook<'_>, from: usize, used: u32) -> u32
+    requires from_value { rest book.bytes.now book.counts from ≡ (book_of book.bytes.now).statements }
+    requires used_value { used ≡ usedOf (book_of book.bytes.now) (conclusions (book_of book.bytes.now)) }
+    ensures { result ≡ length (joinings (book_of book.entry.bytes.now) (conclusions (book_of book.entry.bytes.now))) }
 {
-    let mut takers = [0u64; 32768];
-    let mut told = [0u32; 512];
-    read_told(book, from, offsets, counts, &mut takers, &mut told);
-    let everyone = Names {
-        reader: None,
-        day: None,
-    };
-    let mut t = [0u64; 531480];
-    let mut says = [0u64; 75784];
-    let mut chains = [0u8; 16384];
-    let mut labels = [0u32; 512];
-    let mut leaves = [0u32; 4096];
-    draw(
-        book,
-        offsets,
-        whole_task(counts, from, used),
-        everyone,
-        &mut leaves,
-        &mut says,
-        &mut chains,
-        &mut labels,
-        &mut t,
-    );
-    count_all(&told, &labels, counts.individuals as usize)
-}
-
-// Of a checked book, from the smaller tables on (as `allot` of crate saturation).
-fn count_checked(
-    book: &[u8],
-    from: usize,
-    offsets: &[usize],
-    counts: Counts,
-    used: u32,
-    step: u32,
-) -> u32
-    requires fact { Open book.now counts offsets.now }
-    requires from_value { rest book.now counts from ≡ (book_of book.now).statements }
-    requires used_value { used ≡ usedOf (book_of book.now) (conclusions (book_of book.now)) }
-    ensures { result ≡ length (joinings (book_of book.now) (conclusions (book_of book.now))) }
-{
-    let size = wanted(counts);
-    if step < size {
-        return count_checked(book, from, offsets, counts, used, step + 1);
+    if wanted(book.counts) == 0 {
+        return count_in::<512, 512, 1416, 256, 16, 64>(book, from, used);
     }
-    if size == 0 {
-        return count_few(book, from, offsets, counts, used);
-    }
-    count_many(book, from, offsets, counts, used)
+    count_in::<32768, 531480, 75784, 16384, 512, 4096>(book, from, used)
 }
 
 fn count_any(book: &[u8], offsets: &mut [usize], used: u32) -> u32
@@ -211,7 +146,12 @@ fn count_any(book: &[u8], offsets: &mut [usize], used: u32) -> u32
     let Ok((counts, from)) = check_book(book, offsets) else {
         return 0;
     };
-    count_checked(book, from, offsets, counts, used, 0)
+    let open = OpenBook {
+        bytes: book,
+        offsets,
+        counts,
+    };
+    count_checked(open, from, used)
 }
 
 // Of a book that was run, with so many types and edges.

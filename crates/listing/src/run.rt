@@ -1,5 +1,5 @@
 // A run that lends a row list in place of the pair list: the run itself first, and then its rows.
-ghost use Rattle.std.specs.Prelude.{◌≡◌, false, ◌+◌, ◌*◌, ◌≤◌, length, replicate};
+ghost use Rattle.std.specs.Prelude.{◌≡◌, true, false, ◌+◌, ◌*◌, ◌≤◌, length, replicate};
 ghost use Rattle.book.specs.Book.{accepted, decode};
 ghost use Rattle.book.specs.Read.{pick};
 ghost use Rattle.book.specs.Reader.{rest};
@@ -11,8 +11,7 @@ ghost use Rattle.verdict.specs.Listing.{types_of};
 ghost use Rattle.verdict.specs.Conclude.{end_of};
 ghost use Rattle.steps.specs.Joinings.{joinings};
 ghost use Rattle.listing.specs.Listing.{RowsRun};
-ghost use Rattle.saturation.specs.Run.{Small, rows_of};
-ghost use Rattle.listing.specs.Filled.{Fresh};
+ghost use Rattle.listing.specs.Filled.{Fresh, Holding};
 ghost use Rattle.listing.specs.Running.{numbers_of_lem, rows_for_lem, PairsFit, PlainRun, Ran, RowsLeft, RunListed, ended_as};
 
 use super::fill::fill_rows;
@@ -22,8 +21,8 @@ use book::header::{Counts, header_at};
 use book::refusal::Refusal;
 use saturation::allot::wanted;
 use saturation::saturate::saturate;
+use tables::opened::OpenBook;
 use tables::size::size_of;
-use turns::round::Due;
 use verdict::end::End;
 use verdict::list::{clear, list_types};
 
@@ -57,49 +56,36 @@ fn entries_due(numbers: Numbers) -> usize
     9 * n
 }
 
-// Which pair list has room for all pairs of a book: 0 for at most 16 individuals, 1 for any.
-fn pairs_wanted(book: &[u8]) -> u32
-    ensures { (result ≡ 0 → PairsFit book.now 512) × (result ≤ 1) }
+// Whether a list of 512 entries has room for all pairs of a book: those of at most 16 individuals.
+fn has_few_pairs(book: &[u8]) -> bool
+    ensures { result ≡ true → PairsFit book.now 512 }
 {
     let Ok((counts, _)) = header_at(book) else {
-        return 0;
+        return true;
     };
     if counts.individuals > 16 {
-        return 1;
+        return false;
     }
-    0
+    true
 }
 
-// The run itself, with room for the pairs of at most 16 individuals.
-fn run_few(book: &[u8], budget: u64, types: &mut [u32], edges: &mut [u32]) -> End
-    requires { PairsFit book.now 512 }
+// The run itself, with room for N entries of pairs. Never inlined, so that a small book does not walk over the larger list.
+#[inline(never)]
+fn run_with<const N: usize>(book: &[u8], budget: u64, types: &mut [u32], edges: &mut [u32]) -> End
+    requires { PairsFit book.now N × (N ≤ 524288) }
     ensures { PlainRun book.now budget types.old edges.old (end_of result) types.new edges.new }
 {
-    let mut pairs = [0u32; 512];
+    let mut pairs = [0u32; N];
     saturate(book, budget, types, edges, &mut pairs)
 }
 
-// With room for all pairs there can be.
-fn run_many(book: &[u8], budget: u64, types: &mut [u32], edges: &mut [u32]) -> End
+fn run_plain(book: &[u8], budget: u64, types: &mut [u32], edges: &mut [u32]) -> End
     ensures { PlainRun book.now budget types.old edges.old (end_of result) types.new edges.new }
 {
-    let mut pairs = [0u32; 524288];
-    saturate(book, budget, types, edges, &mut pairs)
-}
-
-// From the smaller pair list on: a function that calls itself is not merged with what it calls, so a small book does not walk over the larger list (as
-// `allot` of crate saturation).
-fn run_plain(book: &[u8], budget: u64, types: &mut [u32], edges: &mut [u32], step: u32) -> End
-    ensures { PlainRun book.now budget types.old edges.old (end_of result) types.new edges.new }
-{
-    let size = pairs_wanted(book);
-    if step < size {
-        return run_plain(book, budget, types, edges, step + 1);
+    if has_few_pairs(book) {
+        return run_with::<512>(book, budget, types, edges);
     }
-    if size == 0 {
-        return run_few(book, budget, types, edges);
-    }
-    run_many(book, budget, types, edges)
+    run_with::<524288>(book, budget, types, edges)
 }
 
 // The types again, where the run has any: until then their list has the places of the rows.
@@ -116,10 +102,8 @@ fn list_again(t: &[u64], counts: Counts, numbers: Numbers, types: &mut [u32])
 
 // The rows of a checked book, in blank tables.
 fn list_in(
-    book: &[u8],
+    book: OpenBook<'_>,
     from: usize,
-    offsets: &[usize],
-    counts: Counts,
     numbers: Numbers,
     types: &mut [u32],
     rows: &mut [u32],
@@ -127,22 +111,16 @@ fn list_in(
     takers: &mut [u64],
     deep: &mut [u64],
 )
-    requires fact { Open book.now counts offsets.now }
-    requires from_value { rest book.now counts from ≡ (book_of book.now).statements }
-    requires ran { Ran book.now numbers types.old × (9 * rows_for_lem numbers ≤ length rows.old) }
-    requires fresh { Fresh counts t.old takers.old deep.old }
-    ensures { RowsLeft book.now numbers types.old rows.old types.new rows.new }
+    requires from_value { rest book.bytes.now book.counts from ≡ (book_of book.bytes.now).statements }
+    requires ran { Ran book.bytes.now numbers types.old × (9 * rows_for_lem numbers ≤ length rows.old) }
+    requires fresh { Fresh book.counts t.old takers.old deep.old }
+    ensures { RowsLeft book.entry.bytes.now numbers types.old rows.old types.new rows.new }
 {
-    let rows_due = numbers.types + numbers.edges + numbers.joinings;
-    let due = Due {
-        counts,
-        rows: rows_due,
-    };
+    let due = numbers.types + numbers.edges + numbers.joinings;
     clear(types, 0);
     fill_rows(
         book,
         from,
-        offsets,
         due,
         numbers.clashes,
         t,
@@ -151,34 +129,30 @@ fn list_in(
         takers,
         deep,
     );
-    list_again(t, counts, numbers, types);
+    list_again(t, book.counts, numbers, types);
     clear(rows, entries_due(numbers));
 }
 
-// In tables for a small book.
-fn list_few(
-    book: &[u8],
+// In tables of so many words for links, for what takes a concept and for leaves at any depth. Never inlined, as `count_in`.
+#[inline(never)]
+fn list_with<const T: usize, const P: usize, const D: usize>(
+    book: OpenBook<'_>,
     from: usize,
-    offsets: &[usize],
-    counts: Counts,
     numbers: Numbers,
     types: &mut [u32],
     rows: &mut [u32],
 )
-    requires fact { Open book.now counts offsets.now }
-    requires from_value { rest book.now counts from ≡ (book_of book.now).statements }
-    requires ran { Ran book.now numbers types.old × (9 * rows_for_lem numbers ≤ length rows.old) }
-    requires small { Small counts × (rows_of counts ≤ 64) }
-    ensures { RowsLeft book.now numbers types.old rows.old types.new rows.new }
+    requires from_value { rest book.bytes.now book.counts from ≡ (book_of book.bytes.now).statements }
+    requires ran { Ran book.bytes.now numbers types.old × (9 * rows_for_lem numbers ≤ length rows.old) }
+    requires enough { Holding book.counts T P D }
+    ensures { RowsLeft book.entry.bytes.now numbers types.old rows.old types.new rows.new }
 {
-    let mut t = [0u64; 720];
-    let mut takers = [0u64; 512];
-    let mut deep = [0u64; 4096];
+    let mut t = [0u64; T];
+    let mut takers = [0u64; P];
+    let mut deep = [0u64; D];
     list_in(
         book,
         from,
-        offsets,
-        counts,
         numbers,
         types,
         rows,
@@ -188,64 +162,23 @@ fn list_few(
     );
 }
 
-// In tables for any book.
-fn list_many(
-    book: &[u8],
-    from: usize,
-    offsets: &[usize],
-    counts: Counts,
-    numbers: Numbers,
-    types: &mut [u32],
-    rows: &mut [u32],
-)
-    requires fact { Open book.now counts offsets.now }
-    requires from_value { rest book.now counts from ≡ (book_of book.now).statements }
-    requires ran { Ran book.now numbers types.old × (9 * rows_for_lem numbers ≤ length rows.old) }
-    ensures { RowsLeft book.now numbers types.old rows.old types.new rows.new }
-{
-    let mut t = [0u64; 536616];
-    let mut takers = [0u64; 32768];
-    let mut deep = [0u64; 262144];
-    list_in(
-        book,
-        from,
-        offsets,
-        counts,
-        numbers,
-        types,
-        rows,
-        &mut t,
-        &mut takers,
-        &mut deep,
-    );
-}
-
-// From the smaller tables on.
+// In as many words as the book asks for.
 fn list_checked(
-    book: &[u8],
+    book: OpenBook<'_>,
     from: usize,
-    offsets: &[usize],
-    counts: Counts,
     numbers: Numbers,
     types: &mut [u32],
     rows: &mut [u32],
-    step: u32,
 )
-    requires fact { Open book.now counts offsets.now }
-    requires from_value { rest book.now counts from ≡ (book_of book.now).statements }
-    requires ran { Ran book.now numbers types.old × (9 * rows_for_lem numbers ≤ length rows.old) }
-    ensures { RowsLeft book.now numbers types.old rows.old types.new rows.new }
+    requires from_value { rest book.bytes.now book.counts from ≡ (book_of book.bytes.now).statements }
+    requires ran { Ran book.bytes.now numbers types.old × (9 * rows_for_lem numbers ≤ length rows.old) }
+    ensures { RowsLeft book.entry.bytes.now numbers types.old rows.old types.new rows.new }
 {
-    let size = wanted(counts);
-    if step < size {
-        list_checked(book, from, offsets, counts, numbers, types, rows, step + 1);
-        return;
+    if wanted(book.counts) == 0 {
+        list_with::<720, 512, 4096>(book, from, numbers, types, rows);
+    } else {
+        list_with::<536616, 32768, 262144>(book, from, numbers, types, rows);
     }
-    if size == 0 {
-        list_few(book, from, offsets, counts, numbers, types, rows);
-        return;
-    }
-    list_many(book, from, offsets, counts, numbers, types, rows);
 }
 
 fn list_any(
@@ -262,7 +195,12 @@ fn list_any(
     let Ok((counts, from)) = check_book(book, offsets) else {
         return;
     };
-    list_checked(book, from, offsets, counts, numbers, types, rows, 0);
+    let open = OpenBook {
+        bytes: book,
+        offsets,
+        counts,
+    };
+    list_checked(open, from, numbers, types, rows);
 }
 
 // The rows of a book that was run.
@@ -346,9 +284,9 @@ pub fn saturate_rows(
 ) -> End
     ensures { RowsRun book.now budget types.old edges.old rows.old (record { end = end_of result; types = types.new; edges = edges.new }) rows.new }
 {
-    let end = run_plain(book, budget, types, edges, 0);
+    let end = run_plain(book, budget, types, edges);
     match end {
-        End::Refused(n) => End::Refused(n),
+        End::Refused(refusal) => End::Refused(refusal),
         End::Spent => End::Spent,
         End::Clash(t, e) => {
             let numbers = number(book, t, e, 0, true);

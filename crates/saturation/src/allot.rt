@@ -13,6 +13,7 @@ use super::lists::Lists;
 use super::run::{draw, read_off};
 use book::header::Counts;
 use heed::names::Names;
+use tables::opened::OpenBook;
 use tables::size::{size_of, table_rows};
 use verdict::end::End;
 
@@ -56,19 +57,17 @@ fn is_tiny(counts: Counts) -> bool
 // Never inlined, so that each size has a frame of its own and a small book does not walk over the largest.
 #[inline(never)]
 fn run_in<const T: usize, const S: usize, const C: usize, const L: usize, const K: usize>(
-    book: &[u8],
-    offsets: &[usize],
+    book: OpenBook<'_>,
     task: Task,
     names: Names,
     lists: &mut Lists,
 ) -> End
-    requires fact { Open book.now task.counts offsets.now }
-    requires from_value { rest book.now task.counts task.from ≡ (book_of book.now).statements }
+    requires from_value { rest book.bytes.now book.counts task.from ≡ (book_of book.bytes.now).statements }
     requires ready { Ready names }
     requires admitted { Admitted task.budget lists.old.types.now lists.old.edges.now }
-    requires enough { Holding task.counts T S C L K }
+    requires enough { Holding book.counts T S C L K }
     ensures same { Same lists.old lists.new }
-    ensures outcome { over (came result) lists.new ≡ over (outcome_on (heard_book (reader_of names.entry) book.now) task.budget) lists.old }
+    ensures outcome { over (came result) lists.new ≡ over (outcome_on (heard_book (reader_of names.entry) book.entry.bytes.now) task.budget) lists.old }
 {
     let mut t = [0u64; T];
     let mut says = [0u64; S];
@@ -77,7 +76,6 @@ fn run_in<const T: usize, const S: usize, const C: usize, const L: usize, const 
     let mut leaves = [0u32; K];
     let drawn = draw(
         book,
-        offsets,
         task,
         names,
         &mut leaves,
@@ -86,7 +84,7 @@ fn run_in<const T: usize, const S: usize, const C: usize, const L: usize, const 
         &mut labels,
         &mut t,
     );
-    read_off(&t, task, &says, &leaves, &labels, drawn, lists)
+    read_off(&t, book.counts, task, &says, &leaves, &labels, drawn, lists)
 }
 
 // Which size of tables a book asks for: 0 small, 1 to 3 by the rows of links.
@@ -111,26 +109,25 @@ pub fn wanted(counts: Counts) -> u32
 }
 
 // As many words as the book asks for.
-pub fn allot(book: &[u8], offsets: &[usize], task: Task, names: Names, lists: &mut Lists) -> End
-    requires fact { Open book.now task.counts offsets.now }
-    requires from_value { rest book.now task.counts task.from ≡ (book_of book.now).statements }
+pub fn allot(book: OpenBook<'_>, task: Task, names: Names, lists: &mut Lists) -> End
+    requires from_value { rest book.bytes.now book.counts task.from ≡ (book_of book.bytes.now).statements }
     requires ready { Ready names }
     requires admitted { Admitted task.budget lists.old.types.now lists.old.edges.now }
     ensures same { Same lists.old lists.new }
-    ensures outcome { over (came result) lists.new ≡ over (outcome_on (heard_book (reader_of names.entry) book.now) task.budget) lists.old }
+    ensures outcome { over (came result) lists.new ≡ over (outcome_on (heard_book (reader_of names.entry) book.entry.bytes.now) task.budget) lists.old }
 {
-    let size = wanted(task.counts);
+    let size = wanted(book.counts);
     if size == 0 {
-        if is_tiny(task.counts) {
-            return run_in::<256, 264, 64, 4, 8>(book, offsets, task, names, lists);
+        if is_tiny(book.counts) {
+            return run_in::<256, 264, 64, 4, 8>(book, task, names, lists);
         }
-        return run_in::<512, 1416, 256, 16, 64>(book, offsets, task, names, lists);
+        return run_in::<512, 1416, 256, 16, 64>(book, task, names, lists);
     }
     if size == 1 {
-        return run_in::<16384, 75784, 16384, 512, 4096>(book, offsets, task, names, lists);
+        return run_in::<16384, 75784, 16384, 512, 4096>(book, task, names, lists);
     }
     if size == 2 {
-        return run_in::<131072, 75784, 16384, 512, 4096>(book, offsets, task, names, lists);
+        return run_in::<131072, 75784, 16384, 512, 4096>(book, task, names, lists);
     }
-    run_in::<531480, 75784, 16384, 512, 4096>(book, offsets, task, names, lists)
+    run_in::<531480, 75784, 16384, 512, 4096>(book, task, names, lists)
 }

@@ -28,6 +28,7 @@ use Rattle.rules.proofs.Inside.{Inside, accepted_inside}
 use Rattle.rules.proofs.Members.{conclusions_same, outcome_same}
 use Rattle.rules.proofs.Spoken.{heedings_all, outcome_all}
 use Rattle.rules.proofs.Ended.{IsFinished, ends_finished, accepted_book, types_length, edges_length, pairs_length}
+use Rattle.tables.proofs.Open.{whole}
 use Rattle.tables.specs.Open.{book_of, book_with, size_of, Open}
 use Rattle.said.specs.Layout.{layout_of}
 use Rattle.rounds.specs.View.{held}
@@ -138,7 +139,7 @@ module _ {s : List ℕ} {h : Counts} {offsets : List ℕ} (o : Open s h offsets)
 
   -- the book that goes on keeps to its own numbers
   pub copy_inside : Inside (book_with s (heard anyone s ++ (y ∷ [])))
-  copy_inside = let i = accepted_inside s (book_of s) o.whole in record { limits = i.limits; concepts = i.concepts; statements = subst (λ (g : Counts). Every (Within g) (bodies (heard anyone s ++ (y ∷ [])))) (sym o.counts) within }
+  copy_inside = let i = accepted_inside s (book_of s) (whole o) in record { limits = i.limits; concepts = i.concepts; statements = subst (λ (g : Counts). Every (Within g) (bodies (heard anyone s ++ (y ∷ [])))) (sym o.counts) within }
 
   copy_same : conclusions C ≡ conclusions (book_with s zs)
   copy_same = conclusions_same (book_with s zs) (length zs) zs (λ P k. k) (λ P k. k) (subst (λ (l : List Statement). Inside (book_with s (l ++ (y ∷ [])))) all_heard copy_inside) inside
@@ -167,13 +168,13 @@ module _ {s : List ℕ} {h : Counts} {offsets : List ℕ} (o : Open s h offsets)
       run = ran ∙ copy_run
 
       more : In O X
-      more = conclusions_more (book_of s) y (accepted_inside s (book_of s) o.whole) inside
+      more = conclusions_more (book_of s) y (accepted_inside s (book_of s) (whole o)) inside
 
       few : (book_of s).counts.individuals ≤ 512
-      few = omega (arith, (accepted_inside s (book_of s) o.whole).limits.individuals_top)
+      few = omega (arith, (accepted_inside s (book_of s) (whole o)).limits.individuals_top)
 
       few_classes : (book_of s).counts.classes ≤ 512
-      few_classes = omega (arith, (accepted_inside s (book_of s) o.whole).limits.classes_top)
+      few_classes = omega (arith, (accepted_inside s (book_of s) (whole o)).limits.classes_top)
 
       -- as the copy has the same numbers, the lists of the present facts are those over its numbers
       types_same : types B O ≡ types C O
@@ -300,12 +301,12 @@ pub present_finished : {s : List ℕ} {h : Counts} {offsets : List ℕ} → Open
     → IsFinished ts es ps (book_of s) (conclusions (book_of s)) budget (outcome_on (heard_book anyone s) budget ts es ps)
 present_finished {s} o {budget} {ts} {es} ps a f =
     subst (IsFinished ts es ps (book_of s) (conclusions (book_of s)) budget) (sym (present_run o ps a))
-    (ends_finished ts es ps (decode s) budget (book_of s) o.whole f.0 f.1 f.2 (ap (λ (x : Outcome). x.end) (sym (present_run o ps a)) ∙ f.3))
+    (ends_finished ts es ps (decode s) budget (book_of s) (whole o) f.0 f.1 f.2 (ap (λ (x : Outcome). x.end) (sym (present_run o ps a)) ∙ f.3))
 
 pub effect_is : {s : List ℕ} (x : List ℕ) {h : Counts} {offsets : List ℕ} → Open s h offsets → {budget : ℕ} {ts es : List ℕ} (ps us fs qs : List ℕ) → Admitted budget ts es → (r : Read Statement) → r ≡ one_record h x 0
     → effect_by (outcome_on (heard_book anyone s) budget ts es ps) (with_read (book_of s) r) (conclusions (book_of s)) budget us fs qs ≡ effect s x budget ts es ps us fs qs
 unfolding effect with_record
 effect_is {s} x {h} o {budget} {ts} {es} ps us fs qs a r e =
-    let copy : decode (copied s x) ≡ with_read (book_of s) r = copied_is s x (book_of s) o.whole ∙ ap (with_read (book_of s)) (ap (λ (g : Counts). one_record g x 0) o.counts ∙ sym e) in
-    let facts : had (decode s) ≡ conclusions (book_of s) = ap had o.whole in
+    let copy : decode (copied s x) ≡ with_read (book_of s) r = copied_is s x (book_of s) (whole o) ∙ ap (with_read (book_of s)) (ap (λ (g : Counts). one_record g x 0) o.counts ∙ sym e) in
+    let facts : had (decode s) ≡ conclusions (book_of s) = ap had (whole o) in
     rw (present_run o ps a, copy, facts) refl

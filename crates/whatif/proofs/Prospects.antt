@@ -23,6 +23,7 @@ use Rattle.rules.specs.Spoken.{anyone, heedings}
 use Rattle.denial.specs.Denied.{denied_of}
 use Rattle.rules.proofs.Inside.{Inside, accepted_inside}
 use Rattle.rules.proofs.Ended.{ends_finished}
+use Rattle.tables.proofs.Open.{whole}
 use Rattle.tables.specs.Open.{book_of, book_with, size_of, Open}
 use Rattle.rounds.specs.View.{held}
 use Rattle.verdict.specs.Verdict.{clash_in}
@@ -174,4 +175,4 @@ unfolding with_record
 record_inside {s} x {h} o y next e l =
     let few : (book_of s).counts.statements < 4096 = subst (λ (g : Counts). g.statements < 4096) (sym o.counts) l in
     let read : one_record (book_of s).counts x 0 ≡ value y next = ap (λ (g : Counts). one_record g x 0) o.counts ∙ e in
-    accepted_inside (copied s x) (larger (book_of s) y) (copied_is s x (book_of s) o.whole ∙ rw (lt-ltb (book_of s).counts.statements 4096 few, read) refl)
+    accepted_inside (copied s x) (larger (book_of s) y) (copied_is s x (book_of s) (whole o) ∙ rw (lt-ltb (book_of s).counts.statements 4096 few, read) refl)

@@ -25,6 +25,7 @@ use saturation::allot::wanted;
 use saturation::enter::Task;
 use saturation::lists::Lists;
 use saturation::run::{draw, read_off};
+use tables::opened::OpenBook;
 use verdict::end::End;
 
 // What is asked: the counts of a checked book, where its statements start, the budget, and what was read of the record.
@@ -62,9 +63,13 @@ fn run_in<const T: usize, const S: usize, const C: usize, const L: usize, const 
     let budget = job.budget;
     let read = job.read;
     let task = Task {
-        counts,
         from: job.from,
         budget,
+    };
+    let open = OpenBook {
+        bytes: book,
+        offsets,
+        counts,
     };
     let mut t = [0u64; T];
     let mut says = [0u64; S];
@@ -72,8 +77,7 @@ fn run_in<const T: usize, const S: usize, const C: usize, const L: usize, const 
     let mut labels = [0u32; L];
     let mut leaves = [0u32; K];
     let drawing = draw(
-        book,
-        offsets,
+        open,
         task,
         names,
         &mut leaves,
@@ -82,7 +86,7 @@ fn run_in<const T: usize, const S: usize, const C: usize, const L: usize, const 
         &mut labels,
         &mut t,
     );
-    let end = read_off(&t, task, &says, &leaves, &labels, drawing, lists);
+    let end = read_off(&t, counts, task, &says, &leaves, &labels, drawing, lists);
     let Some(begun) = begin(
         end,
         counts.statements,
@@ -121,7 +125,7 @@ fn run_in<const T: usize, const S: usize, const C: usize, const L: usize, const 
                 &mut labels,
                 &mut t,
             );
-            let last = read_on(&t, task, &says, &leaves, &labels, again, end, more);
+            let last = read_on(&t, counts, task, &says, &leaves, &labels, again, end, more);
             let less = lessen(again.moved, end, last, lists, more);
             Prospect {
                 present: end,

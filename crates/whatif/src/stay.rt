@@ -15,6 +15,7 @@ ghost use Rattle.whatif.specs.Answer.{stayed};
 
 use super::copy::Redrawn;
 use super::remove::remove;
+use book::header::Counts;
 use book::refusal::Refusal;
 use said::layout::{Layout, layout_of};
 use saturation::enter::Task;
@@ -56,6 +57,7 @@ fn stay(
 // How the copy ends: its lists are read off, or, where nothing moved, left empty.
 pub fn read_on(
     t: &[u64],
+    counts: Counts,
     task: Task,
     says: &[u64],
     leaves: &[u32],
@@ -64,12 +66,12 @@ pub fn read_on(
     first: End,
     lists: &mut Lists,
 ) -> End
-    requires inside { (B : Book) × Inside B × (B.counts ≡ task.counts) × Drawn task.counts B task.budget says.now leaves.now labels.now t.now again.used again.denied }
-    requires counts_in_bounds { (total_rows (layout_of task.counts) * 8 ≤ length says.now) × (task.counts.concepts ≤ length leaves.now) }
+    requires inside { (B : Book) × Inside B × (B.counts ≡ counts) × Drawn counts B task.budget says.now leaves.now labels.now t.now again.used again.denied }
+    requires counts_in_bounds { (total_rows (layout_of counts) * 8 ≤ length says.now) × (counts.concepts ≤ length leaves.now) }
     requires admitted { Admitted task.budget lists.old.types.now lists.old.edges.now }
     ensures same { Same lists.old lists.new }
-    ensures pairs_after { again.moved ≡ true → (B : Book) → Inside B → B.counts ≡ task.counts → Drawn task.counts B task.budget says.now leaves.now labels.now t.now again.used again.denied → over (came result) lists.new ≡ over (outcome_on B task.budget) lists.old }
-    ensures pairs_after_2 { again.moved ≡ false → over (came result) lists.new ≡ over (stayed (clash_in (layout_of task.counts) t.now says.now leaves.now || again.denied) (end_of first)) lists.old }
+    ensures pairs_after { again.moved ≡ true → (B : Book) → Inside B → B.counts ≡ counts → Drawn counts B task.budget says.now leaves.now labels.now t.now again.used again.denied → over (came result) lists.new ≡ over (outcome_on B task.budget) lists.old }
+    ensures pairs_after_2 { again.moved ≡ false → over (came result) lists.new ≡ over (stayed (clash_in (layout_of counts) t.now says.now leaves.now || again.denied) (end_of first)) lists.old }
 {
     if again.moved {
         let drawn = Drawing {
@@ -78,11 +80,11 @@ pub fn read_on(
             denies: true,
             denied: again.denied,
         };
-        return read_off(t, task, says, leaves, labels, drawn, lists);
+        return read_off(t, counts, task, says, leaves, labels, drawn, lists);
     }
     stay(
         t,
-        layout_of(task.counts),
+        layout_of(counts),
         says,
         leaves,
         again.denied,

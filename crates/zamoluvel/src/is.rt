@@ -7,7 +7,7 @@ ghost use Rattle.member.specs.Judgement.{Judgement};
 ghost use Rattle.judge.specs.Answered.{answer_of};
 ghost use Rattle.zamoluvel.specs.Is.{answer_code_lem, types_in, edges_in_lem, pairs_in_lem, counts_in};
 
-use super::run::{code_of, edges_of, pairs_of, types_of};
+use super::run::{code_of, counts_of};
 use heed::names::{Names, Reader};
 use judge::answer::{Answer, Question};
 use judge::judge::{judge, judge_as};
@@ -22,33 +22,15 @@ fn answer_code(answer: Answer) -> u32
     }
 }
 
-fn types_in(answer: Answer) -> u32
-    ensures { result ≡ types_in (answer_of answer) }
+// The counts of the run.
+fn counts_of_run(answer: Answer) -> (u32, u32, u32)
+    ensures { result ≡ (types_in (answer_of answer), edges_in_lem (answer_of answer), pairs_in_lem (answer_of answer)) }
 {
     match answer {
-        Answer::Shown(t, _, _) => t,
-        Answer::NotShown(t, _, _) => t,
-        Answer::Ended(end) => types_of(end),
-    }
-}
-
-fn edges_in(answer: Answer) -> u32
-    ensures { result ≡ edges_in_lem (answer_of answer) }
-{
-    match answer {
-        Answer::Shown(_, e, _) => e,
-        Answer::NotShown(_, e, _) => e,
-        Answer::Ended(end) => edges_of(end),
-    }
-}
-
-fn pairs_in(answer: Answer) -> u32
-    ensures { result ≡ pairs_in_lem (answer_of answer) }
-{
-    match answer {
-        Answer::Shown(_, _, p) => p,
-        Answer::NotShown(_, _, p) => p,
-        Answer::Ended(end) => pairs_of(end),
+        Answer::Shown(types, edges, pairs) | Answer::NotShown(types, edges, pairs) => {
+            (types, edges, pairs)
+        }
+        Answer::Ended(end) => counts_of(end),
     }
 }
 
@@ -65,9 +47,10 @@ pub fn put(counts: &mut [u32], i: usize, count: u32)
 fn put_counts(counts: &mut [u32], answer: Answer)
     ensures { counts.new ≡ counts_in (answer_of answer) counts.old }
 {
-    put(counts, 0, types_in(answer));
-    put(counts, 1, edges_in(answer));
-    put(counts, 2, pairs_in(answer));
+    let (types, edges, pairs) = counts_of_run(answer);
+    put(counts, 0, types);
+    put(counts, 1, edges);
+    put(counts, 2, pairs);
 }
 
 // `judge`, with the answer as a number, and its counts in the first three entries of a list.

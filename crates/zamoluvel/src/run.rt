@@ -24,36 +24,14 @@ pub fn code_of(end: End) -> u32
     }
 }
 
-pub fn types_of(end: End) -> u32
-    ensures { result ≡ type_count_lem (end_of end) }
+// The type, edge and pair count of an end, 0 for those that it has not.
+pub fn counts_of(end: End) -> (u32, u32, u32)
+    ensures { result ≡ (type_count_lem (end_of end), edge_count_lem (end_of end), pair_count_lem (end_of end)) }
 {
     match end {
-        End::Finished(t, _, _) => t,
-        End::Clash(t, _) => t,
-        End::Spent => 0,
-        End::Refused(_) => 0,
-    }
-}
-
-pub fn edges_of(end: End) -> u32
-    ensures { result ≡ edge_count_lem (end_of end) }
-{
-    match end {
-        End::Finished(_, e, _) => e,
-        End::Clash(_, e) => e,
-        End::Spent => 0,
-        End::Refused(_) => 0,
-    }
-}
-
-pub fn pairs_of(end: End) -> u32
-    ensures { result ≡ pair_count_lem (end_of end) }
-{
-    match end {
-        End::Finished(_, _, p) => p,
-        End::Clash(_, _) => 0,
-        End::Spent => 0,
-        End::Refused(_) => 0,
+        End::Finished(types, edges, pairs) => (types, edges, pairs),
+        End::Clash(types, edges) => (types, edges, 0),
+        End::Spent | End::Refused(_) => (0, 0, 0),
     }
 }
 
@@ -79,9 +57,7 @@ pub extern "C" fn zamoluvel_saturate(
     ensures demand { (B : Book) → decode book.now ≡ accepted B → Demand B (outcome book.now budget types.old edges.old pairs.old) }
 {
     let end = saturate(book, budget, types, edges, pairs);
-    *type_count = types_of(end);
-    *edge_count = edges_of(end);
-    *pair_count = pairs_of(end);
+    (*type_count, *edge_count, *pair_count) = counts_of(end);
     code_of(end)
 }
 
@@ -128,9 +104,7 @@ pub extern "C" fn zamoluvel_saturate_for(
         day: None,
     };
     let end = saturate_as(book, budget, types, edges, pairs, names);
-    *type_count = types_of(end);
-    *edge_count = edges_of(end);
-    *pair_count = pairs_of(end);
+    (*type_count, *edge_count, *pair_count) = counts_of(end);
     code_of(end)
 }
 
@@ -157,7 +131,8 @@ pub extern "C" fn zamoluvel_saturate_on(
         day: Some(day),
     };
     let end = saturate_as(book, budget, types, edges, pairs, names);
-    *counts = [types_of(end), edges_of(end), pairs_of(end)];
+    let (type_count, edge_count, pair_count) = counts_of(end);
+    *counts = [type_count, edge_count, pair_count];
     code_of(end)
 }
 
@@ -189,7 +164,8 @@ pub extern "C" fn zamoluvel_saturate_for_on(
         day: Some(day),
     };
     let end = saturate_as(book, budget, types, edges, pairs, names);
-    *counts = [types_of(end), edges_of(end), pairs_of(end)];
+    let (type_count, edge_count, pair_count) = counts_of(end);
+    *counts = [type_count, edge_count, pair_count];
     code_of(end)
 }
 
@@ -214,9 +190,7 @@ pub extern "C" fn zamoluvel_saturate_rows(
     ensures left { Left book.now (ended book.now budget types.old edges.old (length rows.old)).end rows.old rows.new }
 {
     let end = saturate_rows(book, budget, types, edges, rows);
-    *type_count = types_of(end);
-    *edge_count = edges_of(end);
-    *pair_count = pairs_of(end);
+    (*type_count, *edge_count, *pair_count) = counts_of(end);
     code_of(end)
 }
 

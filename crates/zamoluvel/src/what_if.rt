@@ -7,7 +7,7 @@ ghost use Rattle.zamoluvel.specs.Run.{code_of};
 ghost use Rattle.zamoluvel.specs.WhatIf.{further_code_lem, further_types_lem, further_edges_lem, further_pairs_lem, present_counts, copy_counts, effect_counts};
 
 use super::is::put;
-use super::run::{code_of, edges_of, pairs_of, types_of};
+use super::run::{code_of, counts_of};
 use verdict::end::End;
 use whatif::what_if::what_if;
 
@@ -20,30 +20,13 @@ fn further_code(copy: Option<End>) -> u32
     }
 }
 
-fn further_types(copy: Option<End>) -> u32
-    ensures { result ≡ further_types_lem (further_of copy) }
+// The counts of what is new; 0 where no copy was run.
+fn further_counts(copy: Option<End>) -> (u32, u32, u32)
+    ensures { result ≡ (further_types_lem (further_of copy), further_edges_lem (further_of copy), further_pairs_lem (further_of copy)) }
 {
     match copy {
-        None => 0,
-        Some(end) => types_of(end),
-    }
-}
-
-fn further_edges(copy: Option<End>) -> u32
-    ensures { result ≡ further_edges_lem (further_of copy) }
-{
-    match copy {
-        None => 0,
-        Some(end) => edges_of(end),
-    }
-}
-
-fn further_pairs(copy: Option<End>) -> u32
-    ensures { result ≡ further_pairs_lem (further_of copy) }
-{
-    match copy {
-        None => 0,
-        Some(end) => pairs_of(end),
+        None => (0, 0, 0),
+        Some(end) => counts_of(end),
     }
 }
 
@@ -51,9 +34,10 @@ fn further_pairs(copy: Option<End>) -> u32
 fn put_present(counts: &mut [u32], end: End)
     ensures { counts.new ≡ present_counts (end_of end) counts.old }
 {
-    put(counts, 0, types_of(end));
-    put(counts, 1, edges_of(end));
-    put(counts, 2, pairs_of(end));
+    let (types, edges, pairs) = counts_of(end);
+    put(counts, 0, types);
+    put(counts, 1, edges);
+    put(counts, 2, pairs);
 }
 
 // And the four behind them the end of the copy and the counts of what is new.
@@ -61,9 +45,10 @@ fn put_copy(counts: &mut [u32], copy: Option<End>)
     ensures { counts.new ≡ copy_counts (further_of copy) counts.old }
 {
     put(counts, 3, further_code(copy));
-    put(counts, 4, further_types(copy));
-    put(counts, 5, further_edges(copy));
-    put(counts, 6, further_pairs(copy));
+    let (types, edges, pairs) = further_counts(copy);
+    put(counts, 4, types);
+    put(counts, 5, edges);
+    put(counts, 6, pairs);
 }
 
 // `what_if`, with the present end as a number, and the counts and the copy's end in the first seven entries of a list.

@@ -6,4 +6,4 @@ pub returns-then-by_statement : goal.returns-then-by_statement
 returns-then-by_statement c = rw (sym c.by_statement.ensures ∙ c.if-by_statement.true) refl
 
 pub returns : goal.returns
-returns c = rw (sym c.by_statement.ensures ∙ c.if-by_statement.false) (c.by_sharing.ensures (book_of c.args.book.now) c.requires.individuals_in_bounds.1)
+returns c = rw (sym c.by_statement.ensures ∙ c.if-by_statement.false) (c.by_sharing.ensures (book_of c.args.book.bytes.now) c.requires.individuals_in_bounds.1)

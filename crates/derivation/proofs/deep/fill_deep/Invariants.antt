@@ -6,7 +6,7 @@ use Rattle.derivation.specs.Collected.{Deep}
 use Rattle.derivation.proofs.deep.fill_deep.Given as goal
 
 abbrev pub invariant-loop-d : goal.invariant-loop-d
-invariant-loop-d l = (l.d ≤ l.n) × (length l.deep ≡ length l.initial.deep) × Deep (book_of l.book) l.counts.concepts l.leaves l.slots l.d l.deep
+invariant-loop-d l = (l.d ≤ l.n) × (length l.deep ≡ length l.initial.deep) × Deep (book_of l.book.bytes.now) l.book.counts.concepts l.leaves l.slots l.d l.deep
 
 abbrev pub decreases-loop-d : goal.decreases-loop-d
 decreases-loop-d l = l.n - l.d

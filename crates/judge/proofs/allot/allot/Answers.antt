@@ -6,7 +6,7 @@ use Rattle.judge.proofs.allot.allot.Goals as goal
 
 pub wanted-size-requires : goal.wanted-size-requires
 wanted-size-requires c =
-    open_sized c.requires.fact
+    open_sized c.args.book.opened
 
 pub run_in-requires-clause-enough : goal.run_in-requires-clause-enough
 run_in-requires-clause-enough c =
@@ -14,12 +14,12 @@ run_in-requires-clause-enough c =
 
 pub run_in-requires-then-size-eq1-clause-enough : goal.run_in-requires-then-size-eq1-clause-enough
 run_in-requires-then-size-eq1-clause-enough c =
-    large_holding (open_limits c.requires.fact) (omega (arith, c.wanted-size.ensures.cache c.if-size-eq1.true)) (omega arith)
+    large_holding (open_limits c.args.book.opened) (omega (arith, c.wanted-size.ensures.cache c.if-size-eq1.true)) (omega arith)
 
 pub run_in-requires-then-size-eq2-clause-enough : goal.run_in-requires-then-size-eq2-clause-enough
 run_in-requires-then-size-eq2-clause-enough c =
-    large_holding (open_limits c.requires.fact) (omega (arith, c.wanted-size.ensures.some c.if-size-eq2.true)) (omega arith)
+    large_holding (open_limits c.args.book.opened) (omega (arith, c.wanted-size.ensures.some c.if-size-eq2.true)) (omega arith)
 
 pub run_in-requires-2-clause-enough : goal.run_in-requires-2-clause-enough
 run_in-requires-2-clause-enough c =
-    large_holding (open_limits c.requires.fact) (omega (arith, most_rows _ (open_limits c.requires.fact))) (omega arith)
+    large_holding (open_limits c.args.book.opened) (omega (arith, most_rows _ (open_limits c.args.book.opened))) (omega arith)

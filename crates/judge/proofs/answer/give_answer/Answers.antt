@@ -13,10 +13,10 @@ pub returns-in_default : goal.returns-in_default
 returns-in_default c = not_finished c.args.end _ c.in_default.in_default-own.keys2
 
 pub part_of-groups-requires : goal.part_of-groups-requires
-part_of-groups-requires c = rw c.layout_of.ensures (placed_of (open_limits c.requires.fact), c.requires.counts_in_bounds)
+part_of-groups-requires c = rw c.layout_of.ensures (placed_of (open_limits c.args.book.opened), c.requires.counts_in_bounds)
 
 pub is_shown-shown-requires : goal.is_shown-shown-requires
-is_shown-shown-requires c = let e = rw c.layout_of.ensures at c.part_of-groups.ensures in record { ready = record { book = c.requires.fact; laid = record { table = c.requires.table; groups = part_room _ Groups _ c.requires.counts_in_bounds e } }; concept_lt_concepts = c.requires.concept_lt_concepts }
+is_shown-shown-requires c = let e = rw c.layout_of.ensures at c.part_of-groups.ensures in record { ready = record { book = c.args.book.opened; laid = record { table = c.requires.table; groups = part_room _ Groups _ c.requires.counts_in_bounds e } }; concept_lt_concepts = c.requires.concept_lt_concepts }
 
 pub returns : goal.returns
 returns c =

@@ -24,8 +24,8 @@ pub returns-in_err-counts-clause-answer : goal.returns-in_err-counts-clause-answ
 returns-in_err-counts-clause-answer c =
     stops_gave _ _ c.from_residual-in_err-counts.ensures.1 (refused_read (c.admit.ensures.admitted _ c.in_ok-admitted.was) _ c.args.question.individual c.args.question.concept c.args.names (c.fault.ensures.none c.in_ok-fault.was) c.check_book.ensures.book_checked c.in_err-counts.was)
 
-pub run_accepted-requires-clause-fact : goal.run_accepted-requires-clause-fact
-run_accepted-requires-clause-fact c = checked_open c.check_book.ensures.book_checked c.in_ok-counts.was (checked_room c.check_book.ensures.book_checked c.in_ok-counts.was (λ B d. subst (λ (m : ℕ). B.counts.concepts ≤ m) (sym (c.check_book.auto.offsets ∙ length-replicate {0} {A = ℕ} 4096 0)) (accepted_limits _ B d).concepts_top))
+pub invariant_of-open : goal.invariant_of-open
+invariant_of-open c = record { opened = checked_open c.check_book.ensures.book_checked c.in_ok-counts.was (checked_room c.check_book.ensures.book_checked c.in_ok-counts.was (λ B d. subst (λ (m : ℕ). B.counts.concepts ≤ m) (sym (c.check_book.auto.offsets ∙ length-replicate {0} {A = ℕ} 4096 0)) (accepted_limits _ B d).concepts_top)) }
 
 pub run_accepted-requires-clause-from_value : goal.run_accepted-requires-clause-from_value
 run_accepted-requires-clause-from_value c = checked_rest c.check_book.ensures.book_checked c.in_ok-counts.was

@@ -24,4 +24,4 @@ pub returns : goal.returns
 returns c m p =
     let i = rw (c.number_of.ensures, c.type_field.ensures, c.size_of-size.ensures) at c.place_of-first.ensures in
     let j = rw (c.number_of-2.ensures, c.type_field-2.ensures, c.size_of-size.ensures) at c.place_of-second.ensures in
-    clash_put c.requires.listed c.requires.fact c.requires.pairs_of c.requires.two i j p
+    clash_put c.requires.listed c.args.book.opened c.requires.pairs_of c.requires.two i j p

@@ -11,5 +11,8 @@ returns-in_default c =
     let e = checked_refused _ _ _ c.check_book.ensures.book_checked _ c.in_default.is in
     absurd (let z : ◌≡◌ {A = ℕ} 0 1 = cc in omega arith)
 
+pub invariant_of-open : goal.invariant_of-open
+invariant_of-open c = record { opened = checked_open c.check_book.ensures.book_checked c.in-Ok.is (omega (arith, checked_few c.check_book.ensures.book_checked c.in-Ok.is, c.requires.in_bounds, c.offsets-1.given)) }
+
 pub count_checked-requires : goal.count_checked-requires
-count_checked-requires c = record { fact = checked_open c.check_book.ensures.book_checked c.in-Ok.is (omega (arith, checked_few c.check_book.ensures.book_checked c.in-Ok.is, c.requires.in_bounds, c.offsets-1.given)); from_value = checked_rest c.check_book.ensures.book_checked c.in-Ok.is; used_value = c.requires.used_value }
+count_checked-requires c = record { from_value = checked_rest c.check_book.ensures.book_checked c.in-Ok.is; used_value = c.requires.used_value }

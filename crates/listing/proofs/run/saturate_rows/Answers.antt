@@ -1,6 +1,6 @@
 use mathlib.Core.Path.{ap, sym, ◌∙◌}
-use Rattle.book.specs.Refusal.{number}
 use Rattle.rules.specs.Ends.{Refused, Spent, Clash, Finished, outcome}
+use Rattle.book.specs.Refusal.{number}
 use Rattle.verdict.specs.Conclude.{end_of}
 use Rattle.listing.proofs.Running.{ran_used, ran_of, plainly, run_early, run_spent, run_rows}
 use Rattle.listing.proofs.run.saturate_rows.Goals as goal
@@ -33,7 +33,7 @@ pub returns-in-Refused : goal.returns-in-Refused
 returns-in-Refused c =
     let o = outcome c.args.book.now c.args.budget c.args.types.now c.args.edges.now c.run_plain-end.ensures.list in
     let z = plainly c.args.book.now c.args.budget c.args.types.now c.args.edges.now c.args.rows.now c.run_plain-end.ensures.list c.run_plain-end.ensures.room in
-    run_early c.args.book.now c.args.budget c.args.types.now c.args.edges.now c.args.rows.now o (number c.in-Refused.n) (z (Refused (number c.in-Refused.n)) (sym c.run_plain-end.ensures.ends ∙ ap end_of c.in-Refused.is)) c.run_plain-end.ensures.types c.run_plain-end.ensures.edges
+    run_early c.args.book.now c.args.budget c.args.types.now c.args.edges.now c.args.rows.now o (number c.in-Refused.refusal) (z (Refused (number c.in-Refused.refusal)) (sym c.run_plain-end.ensures.ends ∙ ap end_of c.in-Refused.is)) c.run_plain-end.ensures.types c.run_plain-end.ensures.edges
 
 pub returns-in-Spent : goal.returns-in-Spent
 returns-in-Spent c =

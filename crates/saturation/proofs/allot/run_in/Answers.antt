@@ -8,7 +8,7 @@ pub draw-drawn-requires-clause-fresh : goal.draw-drawn-requires-clause-fresh
 draw-drawn-requires-clause-fresh g c = fresh_of c.requires.enough
 
 pub read_off-requires-clause-inside : goal.read_off-requires-clause-inside
-read_off-requires-clause-inside g c = let r = reader_of c.args.names in (heard_book r c.args.book.now, heard_inside r c.requires.fact, c.requires.fact.counts, c.draw-drawn.ensures.drawn)
+read_off-requires-clause-inside g c = let r = reader_of c.args.names in (heard_book r c.args.book.bytes.now, heard_inside r c.args.book.opened, c.args.book.opened.counts, c.draw-drawn.ensures.drawn)
 
 pub returns-clause-outcome : goal.returns-clause-outcome
-returns-clause-outcome g c = let r = reader_of c.args.names in c.read_off.ensures.outcome (heard_book r c.args.book.now) (heard_inside r c.requires.fact) c.requires.fact.counts c.draw-drawn.ensures.drawn
+returns-clause-outcome g c = let r = reader_of c.args.names in c.read_off.ensures.outcome (heard_book r c.args.book.bytes.now) (heard_inside r c.args.book.opened) c.args.book.opened.counts c.draw-drawn.ensures.drawn

@@ -1,5 +1,6 @@
-use mathlib.Core.Path.{refl, ◌∙◌}
+use Rattle.std.specs.Prelude.{ℕ}
+use mathlib.Core.Path.{ap, refl, ◌∙◌}
 use Rattle.zamoluvel.proofs.what_if.put_present.Goals as goal
 
 pub returns : goal.returns
-returns c = c.put-3.ensures ∙ rw (c.pairs_of.ensures, c.put-2.ensures, c.edges_of.ensures, c.put.ensures, c.types_of.ensures) refl
+returns c = c.put-3.ensures ∙ rw ((ap (λ (p : ℕ × ℕ × ℕ). p.2) c.counts_of-types.ensures), c.put-2.ensures, (ap (λ (p : ℕ × ℕ × ℕ). p.1) c.counts_of-types.ensures), c.put.ensures, (ap (λ (p : ℕ × ℕ × ℕ). p.0) c.counts_of-types.ensures)) refl
