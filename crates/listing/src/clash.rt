@@ -129,6 +129,8 @@ pub fn put_clash(book: OpenBook<'_>, tables: Tables, pairs: &[u64], ledger: &mut
     requires t_value { clashes (book_of book.bytes.now) (known_in book.counts ledger.old.t.now) ≡ true }
     ensures clash_put { ClashPut (book_of book.entry.bytes.now) ledger.old.rows.now ledger.old.len ledger.new.rows.now }
     ensures t_unchanged { ledger.new.t.now ≡ ledger.old.t.now }
+    ensures places_unchanged { ledger.new.places.now ≡ ledger.old.places.now }
+    ensures len_unchanged { ledger.new.len ≡ ledger.old.len }
     ensures kept { Kept ledger.old ledger.new }
 {
     let row = clash_row(book, tables, pairs, ledger);
