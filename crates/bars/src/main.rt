@@ -73,7 +73,7 @@ fn run(
     edges: &mut [u32],
     pairs: &mut [u32],
     out: &mut [u8],
-) -> std::io::Result<()>
+)
     requires { 64 + 13 * (length types.old + (length edges.old + length pairs.old)) ≤ length out.old }
 {
     types.fill(7);
@@ -81,9 +81,9 @@ fn run(
     pairs.fill(7);
     let end = saturate(book, budget, types, edges, pairs);
     let n = put_run(end, types, edges, pairs, out);
-    print!(rt; "{number} ")?;
-    rt.stdout().write_all(&out[..n])?;
-    println!(rt; "{}", state(end, types, edges, pairs))
+    let _ = print!(rt; "{number} ");
+    let _ = rt.stdout().write_all(&out[..n]);
+    let _ = println!(rt; "{}", state(end, types, edges, pairs));
 }
 
 // Whether there was a next bar, and room for it; it is run on the fronts of the lists.
@@ -95,17 +95,17 @@ fn run_next(
     edges: &mut [u32],
     pairs: &mut [u32],
     out: &mut [u8],
-) -> std::io::Result<bool>
+) -> bool
     requires { 64 + 13 * (length types.old + (length edges.old + length pairs.old)) ≤ length out.old }
 {
     let Some(bar) = next_bar() else {
-        return Ok(false);
+        return false;
     };
     let lists_fit = bar.types <= types.len()
         && bar.edges <= edges.len()
         && bar.pairs <= pairs.len();
     if room.len() < bar.bytes || !lists_fit {
-        return Ok(false);
+        return false;
     }
     io::read_full(STDIN_FILENO, &mut room[..bar.bytes]);
     run(
@@ -117,11 +117,11 @@ fn run_next(
         &mut edges[..bar.edges],
         &mut pairs[..bar.pairs],
         out,
-    )?;
-    Ok(true)
+    );
+    true
 }
 
-fn run_all(rt: &HostRuntime) -> std::io::Result<()> {
+fn run_all(rt: &HostRuntime) {
     let mut room = [0u8; 65536];
     let mut types = [0u32; 8000];
     let mut edges = [0u32; 12000];
@@ -130,14 +130,13 @@ fn run_all(rt: &HostRuntime) -> std::io::Result<()> {
     for number in 1..100000u64 {
         let more = run_next(
             rt, number, &mut room, &mut types, &mut edges, &mut pairs, &mut out,
-        )?;
+        );
         if !more {
-            break;
+            return;
         }
     }
-    Ok(())
 }
 
 fn main(rt: HostRuntime) {
-    let _ = run_all(&rt);
+    run_all(&rt);
 }

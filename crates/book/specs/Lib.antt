@@ -1,4 +1,5 @@
 -- What a book means, in the layers of 01's section "The book".
+pub mod Unlisted
 pub mod Refusal
 pub mod Role
 pub mod Read

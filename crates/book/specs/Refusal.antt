@@ -1,7 +1,7 @@
 -- The numbers of the refusals.
 use Rattle.std.specs.Prelude.{ℕ}
 use Rattle.book.specs.declared.refusal.Refusal.{Refusal}
-use Rattle.book.specs.declared.refusal.Refusal.TheVariants.{LargeBudget, ShortEdgeList, ShortTypeList, CutOff, WrittenDefault, TooMany, UnknownKind, WrongMap, OutOfRange, BytesBehind, ShortPairList, ShortOutput, ShortRowList, UnknownReader, WrongTable, EndsBeforeStart, NoSuchQuestion}
+use Rattle.book.specs.declared.refusal.Refusal.TheVariants.{LargeBudget, ShortEdgeList, ShortTypeList, CutOff, WrittenDefault, TooMany, UnknownKind, WrongMap, OutOfRange, BytesBehind, ShortPairList, ShortOutput, ShortRowList, UnknownReader, WrongTable, EndsBeforeStart, NoSuchQuestion, Other}
 
 abbrev pub number : Refusal → ℕ
 number LargeBudget = 1
@@ -21,3 +21,4 @@ number UnknownReader = 14
 number WrongTable = 15
 number EndsBeforeStart = 16
 number NoSuchQuestion = 17
+number (Other x) = x.number

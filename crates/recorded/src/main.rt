@@ -29,23 +29,23 @@ fn number_at(bytes: &[u8], at: usize) -> u16
 }
 
 // The next record's numbers, if there is one; the end of the input should leave no bytes.
-fn next_head(rt: &HostRuntime) -> std::io::Result<Option<Head>> {
+fn next_head(rt: &HostRuntime) -> Option<Head> {
     let mut head = [0u8; 12];
     let got = io::read_full(STDIN_FILENO, &mut head);
     if got < 12 {
         if 0 < got {
-            println!(rt; "differs: a record is cut off")?;
+            let _ = println!(rt; "differs: a record is cut off");
         }
-        return Ok(None);
+        return None;
     }
-    Ok(Some(Head {
+    Some(Head {
         length: number_at(&head, 0),
         rule: number_at(&head, 2),
         clash: number_at(&head, 4),
         types: number_at(&head, 6),
         edges: number_at(&head, 8),
         pairs: number_at(&head, 10),
-    }))
+    })
 }
 
 // Whether the next n bytes came, and there was room for them; the room has them at its front.
@@ -56,12 +56,12 @@ fn take(room: &mut [u8], n: usize) -> bool
 }
 
 // Whether two counts agree; where not, it is said.
-fn same_count(rt: &HostRuntime, name: &str, ours: u32, recorded: u16) -> std::io::Result<bool> {
+fn same_count(rt: &HostRuntime, name: &str, ours: u32, recorded: u16) -> bool {
     let same = ours == u32::from(recorded);
     if !same {
-        print!(rt; "differs: {name} count {ours}, recorded {recorded}")?;
+        let _ = print!(rt; "differs: {name} count {ours}, recorded {recorded}");
     }
-    Ok(same)
+    same
 }
 
 // Whether the entry of ours is the recorded one from a place on.
@@ -93,34 +93,20 @@ fn has_every(ours: &[u32], n: usize, list: &[u8], end: usize, width: usize) -> b
     from == end
 }
 
-fn same_counts(
-    rt: &HostRuntime,
-    head: Head,
-    types: u32,
-    edges: u32,
-    pairs: u32,
-) -> std::io::Result<bool> {
-    Ok(
-        same_count(rt, "type", types, head.types)?
-            && same_count(rt, "edge", edges, head.edges)?
-            && same_count(rt, "pair", pairs, head.pairs)?,
-    )
+fn same_counts(rt: &HostRuntime, head: Head, types: u32, edges: u32, pairs: u32) -> bool {
+    same_count(rt, "type", types, head.types)
+        && same_count(rt, "edge", edges, head.edges)
+        && same_count(rt, "pair", pairs, head.pairs)
 }
 
 // Verdict and counts of a run that finished.
-fn counts_agree(
-    rt: &HostRuntime,
-    head: Head,
-    types: u32,
-    edges: u32,
-    pairs: u32,
-) -> std::io::Result<bool> {
+fn counts_agree(rt: &HostRuntime, head: Head, types: u32, edges: u32, pairs: u32) -> bool {
     if head.clash != 0 {
-        print!(rt; "differs: finished, recorded clash")?;
-        return Ok(false);
+        let _ = print!(rt; "differs: finished, recorded clash");
+        return false;
     }
     if head.rule == 2 {
-        return Ok(true);
+        return true;
     }
     same_counts(rt, head, types, edges, pairs)
 }
@@ -135,7 +121,7 @@ fn lists_agree(
     our_pairs: &[u32],
     edge_list: &[u8],
     pair_list: &[u8],
-) -> std::io::Result<bool> {
+) -> bool {
     let recorded_edges = 3 * usize::from(head.edges);
     if !has_every(
         our_edges,
@@ -144,8 +130,8 @@ fn lists_agree(
         recorded_edges,
         3,
     ) {
-        print!(rt; "differs: edge list")?;
-        return Ok(false);
+        let _ = print!(rt; "differs: edge list");
+        return false;
     }
     let recorded_pairs = 2 * usize::from(head.pairs);
     if !has_every(
@@ -155,10 +141,10 @@ fn lists_agree(
         recorded_pairs,
         2,
     ) {
-        print!(rt; "differs: pair list")?;
-        return Ok(false);
+        let _ = print!(rt; "differs: pair list");
+        return false;
     }
-    Ok(true)
+    true
 }
 
 // Whether an end agrees with the record by its rule; where not, what differs is said. By rule 2 the Rust may finish where ours clashes.
@@ -170,11 +156,11 @@ fn agrees(
     our_pairs: &[u32],
     edge_list: &[u8],
     pair_list: &[u8],
-) -> std::io::Result<bool> {
+) -> bool {
     match end {
         End::Finished(types, edges, pairs) => {
-            if !counts_agree(rt, head, types, edges, pairs)? {
-                return Ok(false);
+            if !counts_agree(rt, head, types, edges, pairs) {
+                return false;
             }
             lists_agree(
                 rt, head, edges, pairs, our_edges, our_pairs, edge_list, pair_list,
@@ -183,29 +169,23 @@ fn agrees(
         End::Clash(_, _) => {
             let same = head.rule == 2 || head.clash == 1;
             if !same {
-                print!(rt; "differs: clash, recorded finished")?;
+                let _ = print!(rt; "differs: clash, recorded finished");
             }
-            Ok(same)
+            same
         }
         End::Spent => {
-            print!(rt; "differs: spent")?;
-            Ok(false)
+            let _ = print!(rt; "differs: spent");
+            false
         }
         End::Refused(refusal) => {
-            print!(rt; "differs: refused {}", refusal.number())?;
-            Ok(false)
+            let _ = print!(rt; "differs: refused {}", refusal.number());
+            false
         }
     }
 }
 
 // The budget and the lists are those that every recorded run stays within.
-fn run(
-    rt: &HostRuntime,
-    head: Head,
-    book: &[u8],
-    edge_list: &[u8],
-    pair_list: &[u8],
-) -> std::io::Result<bool> {
+fn run(rt: &HostRuntime, head: Head, book: &[u8], edge_list: &[u8], pair_list: &[u8]) -> bool {
     let mut types = [0u32; 8000];
     let mut edges = [0u32; 12000];
     let mut pairs = [0u32; 4000];
@@ -220,7 +200,7 @@ fn take_and_run(
     room: &mut [u8],
     edge_list: &mut [u8],
     pair_list: &mut [u8],
-) -> std::io::Result<bool> {
+) -> bool {
     let n = usize::from(head.length);
     if take(room, n)
         && take(edge_list, 6 * usize::from(head.edges))
@@ -228,11 +208,11 @@ fn take_and_run(
     {
         return run(rt, head, &room[..n], edge_list, pair_list);
     }
-    print!(rt; "differs: the record is cut off, or too long")?;
-    Ok(false)
+    let _ = print!(rt; "differs: the record is cut off, or too long");
+    false
 }
 
-fn replay(rt: &HostRuntime, head: Head) -> std::io::Result<bool> {
+fn replay(rt: &HostRuntime, head: Head) -> bool {
     let mut room = [0u8; 65536];
     let mut edge_list = [0u8; 65536];
     let mut pair_list = [0u8; 65536];
@@ -240,29 +220,29 @@ fn replay(rt: &HostRuntime, head: Head) -> std::io::Result<bool> {
 }
 
 // A record's line: whether it agrees.
-fn line(rt: &HostRuntime, n: u32, head: Head) -> std::io::Result<bool> {
-    print!(rt; "{n}: rule {}, ", head.rule)?;
-    let same = replay(rt, head)?;
-    println!(rt; "{}", if same { "agrees" } else { "" })?;
-    Ok(same)
+fn line(rt: &HostRuntime, n: u32, head: Head) -> bool {
+    let _ = print!(rt; "{n}: rule {}, ", head.rule);
+    let same = replay(rt, head);
+    let _ = println!(rt; "{}", if same { "agrees" } else { "" });
+    same
 }
 
-fn run_all(rt: &HostRuntime) -> std::io::Result<()> {
+fn run_all(rt: &HostRuntime) {
     let mut agree: u32 = 0;
     let mut differ: u32 = 0;
     for n in 1..=100000u32 {
-        let Some(head) = next_head(rt)? else {
+        let Some(head) = next_head(rt) else {
             break;
         };
-        if line(rt, n, head)? {
+        if line(rt, n, head) {
             agree += 1;
         } else {
             differ += 1;
         }
     }
-    println!(rt; "{agree} agree, {differ} differ")
+    let _ = println!(rt; "{agree} agree, {differ} differ");
 }
 
 fn main(rt: HostRuntime) {
-    let _ = run_all(&rt);
+    run_all(&rt);
 }

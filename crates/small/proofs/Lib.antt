@@ -5,3 +5,4 @@ pub mod Places
 pub mod Read
 pub mod Listed
 pub mod Examples
+mod Handing

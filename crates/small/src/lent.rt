@@ -1,9 +1,19 @@
 // The small book at a position, into lent bytes.
-ghost use Rattle.std.specs.Prelude.{◌≡◌};
+ghost use Rattle.std.specs.Prelude.{◌≡◌, ◌++◌, ◌≤◌, length, take, drop};
 ghost use Rattle.small.specs.Books.{small_books, entry_at};
 ghost use Rattle.small.specs.Answer.{length_of, lent_of};
 
 use super::small::small_book;
+
+// The first n bytes of a book, to the front of the lent ones. Kept as a loop: `copy_from_slice` would have the library for C ask for memmove.
+fn copy(bytes: &[u8], n: usize, out: &mut [u8])
+    requires { (n ≤ length bytes.now) × (n ≤ length out.old) }
+    ensures { out.new ≡ take n bytes.now ++ drop n out.old }
+{
+    for k in 0..n {
+        out[k] = bytes[k];
+    }
+}
 
 // The length of the book at a position, or 0 where there is none. The book is written if all of it fits.
 pub fn lend_book(position: u64, out: &mut [u8]) -> usize
@@ -15,7 +25,7 @@ pub fn lend_book(position: u64, out: &mut [u8]) -> usize
     };
     let n = book.length;
     if n <= out.len() {
-        out[..n].copy_from_slice(&book.bytes[..n]);
+        copy(&book.bytes, n, out);
     }
     n
 }

@@ -5,11 +5,12 @@ use native.Mathlib.Numerals.{add-one}
 use mathlib.Core.Path.{◌≡◌, refl, sym, ap, ap₂, ◌∙◌, subst}
 use mathlib.Core.List.{List, [], ◌∷◌, ◌++◌, append_assoc, append-nil}
 use lib.ListN.{length, get_or, take, drop, length-append, length-drop, take-append-drop}
-use lib.Seq.{slice, length-slice, length-take-le, take_at, drop-append-add, drop-drop}
+use lib.Seq.{paste, slice, length-slice, length-take-le, take_at, drop-append-add, drop-drop}
 use borrow.Rule.Slice.PartMut.{put_mid}
 use mathlib.Core.Bool.{Bool, true, false}
 use lib.Dec.{eqb}
 use borrow.Author.Tests.{eq-eqb, ne_eqb, eqb-false}
+use Rattle.std.proofs.lemmas.List.Edits.{paste_all}
 use Rattle.book.specs.Read.{pick}
 use Rattle.book.specs.Bytes.{two_of}
 use Rattle.writer.specs.Lay.{over, recounted, total, records_bytes, Stand}
@@ -47,6 +48,11 @@ module _ (o : List ℕ) (a : ℕ) (l : List ℕ) (fits : a + length l ≤ length
 pub over_none : (o : List ℕ) (a : ℕ) → over o a [] ≡ o
 unfolding over
 over_none o a = let q : a + 0 ≡ a = omega arith in rw (q, append-nil (take a o)) (take-append-drop a o)
+
+-- a copy
+pub over_paste : (o : List ℕ) (to : ℕ) (s : List ℕ) → paste o to s (length s) ≡ over o to s
+unfolding over
+over_paste o to s = paste_all o to s (length s) refl ∙ sym (append_assoc (take to o) s (drop (to + length s) o))
 
 -- a part that is replaced
 pub over_part : (o l l' : List ℕ) (a k : ℕ) → k ≡ length l → l' ≡ l → put_mid a k o l' ≡ over o a l

@@ -14,7 +14,10 @@ fn put(bytes: &[u8], out: &mut [u8], to: usize)
     requires { to + length bytes.now ≤ length out.old }
     ensures { out.new ≡ over out.old to bytes.now }
 {
-    out[to..to + bytes.len()].copy_from_slice(bytes);
+    // Kept as a loop: `copy_from_slice` would have the library for C ask for memmove.
+    for i in 0..bytes.len() {
+        out[to + i] = bytes[i];
+    }
 }
 
 // The header with another statement count.

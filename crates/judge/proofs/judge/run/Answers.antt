@@ -18,7 +18,7 @@ returns-in_err-admitted-clause-answer c =
 
 pub returns-in_err-fault-clause-answer : goal.returns-in_err-fault-clause-answer
 returns-in_err-fault-clause-answer c =
-    stops_gave _ _ c.from_residual-in_err-fault.ensures.1 (refused_gave (c.admit.ensures.admitted _ c.in_ok-admitted.was) _ c.args.question.individual c.args.question.concept (reader_of c.args.names) c.args.book.now _ (ap (questioned c.args.question.individual c.args.question.concept) (c.fault.ensures.refuses _ c.in_err-fault.was c.args.book.now)))
+    stops_gave _ _ c.from_residual-in_err-fault.ensures.1 (refused_gave (c.admit.ensures.admitted _ c.in_ok-admitted.was) _ c.args.question.individual c.args.question.concept (reader_of c.args.names) c.args.book.now c.before.before.in_err-fault.field-0.0 (ap (questioned c.args.question.individual c.args.question.concept) (c.fault.ensures.refuses _ c.in_err-fault.was c.args.book.now)))
 
 pub returns-in_err-counts-clause-answer : goal.returns-in_err-counts-clause-answer
 returns-in_err-counts-clause-answer c =

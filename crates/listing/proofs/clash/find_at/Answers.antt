@@ -16,12 +16,12 @@ find_other-requires c =
 pub returns-in-Some-find_other : goal.returns-in-Some-find_other
 returns-in-Some-find_other c =
     let b = going c.loop-a.invariant.0 c.in-Some.ensures.steps in
-    pair_found c.args.size c.args.ledger.now.t.now c.args.pairs.now c.args.x (rw c.type_field.ensures at c.row_of-k.ensures.0) c.requires.2 b.lt (b.scan.hit b.lt) c.in-Some-find_other.ensures
+    pair_found c.args.size c.args.t.now c.args.pairs.now c.args.x (rw c.type_field.ensures at c.row_of-k.ensures.0) c.requires.2 b.lt (b.scan.hit b.lt) c.in-Some-find_other.ensures
 
 pub loop-a-preserved : goal.loop-a-preserved
 loop-a-preserved c =
     let b = going c.loop-a.invariant.0 c.in-Some.ensures.steps in
-    (b.over, rw b.at (apart_more c.args.size c.args.ledger.now.t.now c.args.pairs.now c.args.x (apart_to c.args.size c.args.ledger.now.t.now c.args.pairs.now c.args.x (rw c.type_field.ensures at c.row_of-k.ensures.0) c.loop-a.invariant.1 b.scan) c.in_default.ensures))
+    (b.over, rw b.at (apart_more c.args.size c.args.t.now c.args.pairs.now c.args.x (apart_to c.args.size c.args.t.now c.args.pairs.now c.args.x (rw c.type_field.ensures at c.row_of-k.ensures.0) c.loop-a.invariant.1 b.scan) c.in_default.ensures))
 
 pub returns : goal.returns
-returns c = pair_none c.args.size c.args.ledger.now.t.now c.args.pairs.now c.args.x (apart_to c.args.size c.args.ledger.now.t.now c.args.pairs.now c.args.x (rw c.type_field.ensures at c.row_of-k.ensures.0) c.loop-a.invariant.1 (at_end c.loop-a.invariant.0 c.in-None.ensures.steps))
+returns c = pair_none c.args.size c.args.t.now c.args.pairs.now c.args.x (apart_to c.args.size c.args.t.now c.args.pairs.now c.args.x (rw c.type_field.ensures at c.row_of-k.ensures.0) c.loop-a.invariant.1 (at_end c.loop-a.invariant.0 c.in-None.ensures.steps))

@@ -4,4 +4,4 @@ use Rattle.listing.proofs.Clashes.{ApartBelow}
 use Rattle.listing.proofs.clash.find_at.Given as goal
 
 abbrev pub invariant-loop-a : goal.invariant-loop-a
-invariant-loop-a l = Over (has l.ledger.t.now l.k) l.size.classes l.a-iterator × ApartBelow l.size l.ledger.t.now l.pairs l.x l.a-iterator.at
+invariant-loop-a l = Over (has l.t l.k) l.size.classes l.a-iterator × ApartBelow l.size l.t l.pairs l.x l.a-iterator.at

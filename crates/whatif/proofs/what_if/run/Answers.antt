@@ -8,7 +8,7 @@ use Rattle.whatif.proofs.Prospects.{alone_effect, stops_left}
 use Rattle.whatif.proofs.what_if.run.Goals as goal
 
 pub returns-in_err-admit-clause-effect : goal.returns-in_err-admit-clause-effect
-returns-in_err-admit-clause-effect c = stops_left _ _ c.from_residual.ensures.1 (alone_effect _ _ _ _ _ _ _ _ _ _ (sym (refused_first c.admit.ensures c.in_err-admit.was (decode c.args.book.now) _)))
+returns-in_err-admit-clause-effect c = stops_left _ _ c.from_residual.ensures.1 (alone_effect _ _ _ _ _ _ _ _ _ c.before.before.in_err-admit.field-0.0 (sym (refused_first c.admit.ensures c.in_err-admit.was (decode c.args.book.now) _)))
 
 pub run_in-requires-clause-in_bounds : goal.run_in-requires-clause-in_bounds
 run_in-requires-clause-in_bounds c = λ B d. omega (arith, short_concepts _ B d, c.if-book-le128.true)
