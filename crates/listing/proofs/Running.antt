@@ -32,6 +32,7 @@ use Rattle.verdict.proofs.list.Gathers.{gather_few}
 use Rattle.steps.specs.Joinings.{joinings, due_count, due_of}
 use Rattle.steps.proofs.Joinings.{due_counted}
 use Rattle.listing.specs.declared.run.Numbers.{Numbers}
+use Rattle.std.proofs.Math.Nat.{mul-le-mul_right}
 use Rattle.listing.specs.Running.{numbers_of_lem, rows_for_lem, PairsFit, Ran, RunListed, ended_as}
 use Rattle.listing.specs.Listing.{row_count, Ended, zeros, ended_from, ended, Listing, Lists, Left, RowsRun}
 use Rattle.listing.proofs.Ended as own
@@ -88,14 +89,14 @@ pairs_below B m l =
 pub fit_many : (s : List ℕ) → PairsFit s 524288
 fit_many s B d = let l = (accepted_inside s B d).limits.individuals_top in omega (arith, l, pairs_below B 512 l)
 
-pub fit_few : (s : List ℕ) {h : Counts} {next : ℕ} → header s 0 ≡ value h next → h.individuals ≤ 16 → PairsFit s 512
-fit_few s {h} {next} e l B d =
+pub fit_few : (m k : ℕ) (s : List ℕ) {h : Counts} {next : ℕ} → header s 0 ≡ value h next → h.individuals ≤ m → 2 * (m * m) ≤ k → PairsFit s k
+fit_few m k s {h} {next} e l w B d =
     let q = (same_value B.counts h _ next (sym (layout s B d).head ∙ e)).0 in
-    let m : B.counts.individuals ≤ 16 = subst (λ (g : Counts). g.individuals ≤ 16) (sym q) l in
-    omega (arith, m, pairs_below B 16 m)
+    let b : B.counts.individuals ≤ m = subst (λ (g : Counts). g.individuals ≤ m) (sym q) l in
+    omega (arith, w, mul-le-mul_right m b, pairs_below B m b)
 
-pub fit_none : (s : List ℕ) {n : ℕ} → header s 0 ≡ refusal n → PairsFit s 512
-fit_none s {n} e B d = no_value n B.counts _ (sym e ∙ (layout s B d).head)
+pub fit_none : (k : ℕ) (s : List ℕ) {n : ℕ} → header s 0 ≡ refusal n → PairsFit s k
+fit_none k s {n} e B d = no_value n B.counts _ (sym e ∙ (layout s B d).head)
 
 -- and no more joinings than same pairs
 gather_fewer : (n : ℕ) (f g : ℕ → List Two) → ((k : ℕ) → length (f k) ≤ length (g k)) → length (gather n f) ≤ length (gather n g)

@@ -56,14 +56,15 @@ fn entries_due(numbers: Numbers) -> usize
     9 * n
 }
 
-// Whether a list of 512 entries has room for all pairs of a book: those of at most 16 individuals.
-fn has_few_pairs(book: &[u8]) -> bool
-    ensures { result ≡ true → PairsFit book.now 512 }
+// Whether a list of N entries has room for all pairs of a book: of one that has at most M individuals.
+fn has_few_pairs<const M: usize, const N: usize>(book: &[u8]) -> bool
+    requires { 2 * (M * M) ≤ N }
+    ensures { result ≡ true → PairsFit book.now N }
 {
     let Ok((counts, _)) = header_at(book) else {
         return true;
     };
-    if counts.individuals > 16 {
+    if counts.individuals as usize > M {
         return false;
     }
     true
@@ -82,8 +83,14 @@ fn run_with<const N: usize>(book: &[u8], budget: u64, types: &mut [u32], edges: 
 fn run_plain(book: &[u8], budget: u64, types: &mut [u32], edges: &mut [u32]) -> End
     ensures { PlainRun book.now budget types.old edges.old (end_of result) types.new edges.new }
 {
-    if has_few_pairs(book) {
+    if has_few_pairs::<16, 512>(book) {
         return run_with::<512>(book, budget, types, edges);
+    }
+    if has_few_pairs::<64, 8192>(book) {
+        return run_with::<8192>(book, budget, types, edges);
+    }
+    if has_few_pairs::<256, 131072>(book) {
+        return run_with::<131072>(book, budget, types, edges);
     }
     run_with::<524288>(book, budget, types, edges)
 }
